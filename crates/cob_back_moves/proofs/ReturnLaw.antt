@@ -3,7 +3,7 @@ use Rattle.std.proofs.Common.{◌≡◌, ℕ, Bool, true, false, List, length, r
 use Rattle.std.specs.Prelude.{MatchBool, Some}
 use Rattle.cob_picture.specs.Positions.{PlainPicture, shows_number}
 use Rattle.cob_codec.specs.declared.reading.Reading.{Reading}
-use Rattle.cob_codec.specs.declared.reading.Reading.TheVariants.{Pictured, Whole}
+use Rattle.cob_codec.specs.declared.reading.Reading.TheVariants.{AnyZones, Pictured, Whole, WholeAnyZones}
 use Rattle.cob_copybook_tree.specs.declared.kinds.StorageKind.{StorageKind}
 use Rattle.cob_copybook_tree.specs.declared.kinds.StorageKind.TheVariants.{Zoned, Separate, Packed, Binary}
 use Rattle.cob_copybook_tree.specs.declared.node.Item.{Item}
@@ -31,10 +31,19 @@ pictured_by Separate other leading p bytes negative ds = refl
 pictured_by Packed other leading p bytes negative ds = refl
 pictured_by Binary other leading p bytes negative ds = absurd (cc)
 
+binary_by : (f : StorageKind) → is_read_whole f ≡ true → (leading : Bool) (p : PlainPicture) (bytes : List ℕ) (negative : Bool) (ds : List ℕ)
+    → SentAs AnyZones f leading p bytes negative ds ≡ RepresentsAs f leading p bytes negative ds
+binary_by Zoned is leading p bytes negative ds = absurd (cc)
+binary_by Separate is leading p bytes negative ds = absurd (cc)
+binary_by Packed is leading p bytes negative ds = absurd (cc)
+binary_by Binary is leading p bytes negative ds = refl
+
 sent_pictured : (reading : Reading) (i : Item) (bytes : List ℕ) (negative : Bool) (ds : List ℕ) → IsReadPictured reading i
     → IsSentBy reading i bytes negative ds ≡ IsSentBy Pictured i bytes negative ds
 sent_pictured Pictured i bytes negative ds is = refl
 sent_pictured Whole i bytes negative ds is = pictured_by (storage_kind i) is (is_leading i.sign) i.picture bytes negative ds
+sent_pictured AnyZones i bytes negative ds is = binary_by (storage_kind i) is (is_leading i.sign) i.picture bytes negative ds
+sent_pictured WholeAnyZones i bytes negative ds is = absurd is
 
 to_pictured : (reading : Reading) (i : Item) (bytes : List ℕ) (v : Amount) → IsReadPictured reading i → IsNumberIn reading i bytes v → IsNumberIn Pictured i bytes v
 to_pictured reading i bytes v is h =

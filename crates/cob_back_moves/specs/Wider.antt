@@ -3,7 +3,7 @@ use Rattle.std.specs.Prelude.{◌≡◌, ◌⊎◌, ℕ, ◌≤◌, ◌≤ℤ◌
 use Rattle.cob_picture.specs.Positions.{shows_number}
 use Rattle.cob_picture.specs.Counts.{digits_before, scale, signed}
 use Rattle.cob_codec.specs.declared.reading.Reading.{Reading}
-use Rattle.cob_codec.specs.declared.reading.Reading.TheVariants.{Pictured, Whole}
+use Rattle.cob_codec.specs.declared.reading.Reading.TheVariants.{AnyZones, Pictured, Whole, WholeAnyZones}
 use Rattle.cob_copybook_tree.specs.declared.node.Item.{Item}
 use Rattle.cob_copybook_tree.specs.Items.{storage_kind}
 use Rattle.cob_copybook_tree.specs.Lengths.{item_size}
@@ -34,10 +34,12 @@ pub record IsLongerText (i j : Item) : Type 0 where
 abbrev pub LosesNothing : Item → Item → Type 0
 LosesNothing i j = IsWiderNumber i j ⊎ IsLongerText i j
 
--- where it is sent by this reading, the item is read as its picture says
+-- where it is sent by this reading, the item is read as its picture says: by any zones, a binary one is
 abbrev pub IsReadPictured : Reading → Item → Type 0
 IsReadPictured Pictured i = Unit {0}
 IsReadPictured Whole i = is_read_whole (storage_kind i) ≡ false
+IsReadPictured AnyZones i = is_read_whole (storage_kind i) ≡ true
+IsReadPictured WholeAnyZones i = ⊥
 
 -- these bytes of the item represent the same value as those, or are the same where it is of characters
 abbrev pub IsSameIn : Item → List ℕ → List ℕ → Type 0

@@ -25,6 +25,8 @@ pub(crate) fn is_read_pictured(reading: Reading, kind: &Kind) -> bool
         Kind::Item(item) => match reading {
             Reading::Pictured => true,
             Reading::Whole => !item.storage_kind().is_read_whole(),
+            Reading::AnyZones => item.storage_kind().is_read_whole(),
+            Reading::WholeAnyZones => false,
         },
     }
 }

@@ -12,3 +12,5 @@ pub mod ZonedFlawLemmas
 pub mod SeparateFlawLemmas
 pub mod PackedFlawLemmas
 pub mod NaturalLemmas
+pub mod AnyZoneLaws
+pub mod AnyZoneLemmas

@@ -37,3 +37,7 @@ OneValue one other =
     → one bytes a ds
     → other bytes b es
     → (a ≡ b) × (number_of ds ≡ number_of es)
+
+-- What one reading reads, the other reads too, as the same number.
+abbrev pub ReadsToo : (List ℕ → Bool → List ℕ → Type 0) → (List ℕ → Bool → List ℕ → Type 0) → Type 0
+ReadsToo one other = (bytes : List ℕ) (negative : Bool) (digits : List ℕ) → one bytes negative digits → other bytes negative digits

@@ -6,3 +6,5 @@ pub mod Packed
 pub mod Binary
 pub mod Flaws
 pub mod Naturals
+pub mod AnyZones
+pub mod Readings

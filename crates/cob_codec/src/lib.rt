@@ -8,10 +8,11 @@
 //! represent is the one that it gives (`only`), so that it answers None exactly where they represent none; `store` writes the
 //! one stored form (`bytes`). The words for these are in specs/: `IsZoned`, `IsSignedSeparately`, `IsPacked` and `IsBinary` relate the bytes
 //! to a sign and digits, whose magnitude is the sum of each digit times its power of ten; `zoned_form`, `separate_form`,
-//! `packed_form` and `binary_form` are the bytes that are written. `Binary::read_whole` is the number of all bytes (`IsWholeBinary`); a
-//! [`Reading`] says which of the two readings of binary items is meant.
-//! `bytes_represent_one_number`, `stored_numbers_read_back` and `whole_reading_agrees` are laws over these words; code that is
-//! generic over [`Storage`] has the same laws by `Storage::laws`.
+//! `packed_form` and `binary_form` are the bytes that are written. `Binary::read_whole` is the number of all bytes (`IsWholeBinary`).
+//! `read_any_zones` of [`Zoned`], [`Separate`] and [`Packed`] reads digits as the machine takes them, whatever the zones of the bytes are
+//! (`IsZonedByAnyZones`, `IsSeparateByAnyZones`, `IsPackedByAnyZones` of specs/AnyZones.antt). A [`Reading`] says which of the readings is meant.
+//! `bytes_represent_one_number`, `stored_numbers_read_back`, `whole_reading_agrees`, `strict_is_any` and `any_zones_hold_numbers` are laws over these
+//! words; code that is generic over [`Storage`] has the same laws of its kind by `Storage::laws`.
 //!
 //! Where bytes represent no number, a person wants to know which part of them is to blame. [`zoned_flaw`], [`packed_flaw`] and [`separate_flaw`] find
 //! the first part that isn't as its place asks: a half byte of a zoned or a packed item, or a byte of one with a separate sign. An answer is that part
@@ -26,11 +27,12 @@
 //! # Where it is proved
 //!
 //! The clauses of `length`, `read`, `store` and `laws` of the trait `Storage`, for the kinds `Zoned`, `Separate`, `Packed`, `Binary`;
-//! `Binary::read_whole`; `Zoned::natural`, `Packed::natural`, `Binary::natural`; `Shape::of`; of `zoned_flaw`, `packed_flaw` and `separate_flaw`: the first part of bytes
+//! `Binary::read_whole`; `read_any_zones` of `Zoned`, `Separate`, `Packed`; the methods of `Reading`; `Zoned::natural`, `Packed::natural`, `Binary::natural`; `Shape::of`; of `zoned_flaw`, `packed_flaw` and `separate_flaw`: the first part of bytes
 //! that is not as its place asks (`IsFirstFlaw`), none exactly where the bytes represent a number; the laws `bytes_represent_one_number`,
-//! `stored_numbers_read_back`, `whole_reading_agrees`.
+//! `stored_numbers_read_back`, `whole_reading_agrees`, `strict_is_any`, `any_zones_hold_numbers`.
 #![tactic(auto)]
 
+mod any_zones;
 mod binary;
 mod flaw;
 mod halves;
@@ -49,7 +51,10 @@ mod zoned_flaws;
 
 pub use crate::binary::Binary;
 pub use crate::flaw::{ExpectedPart, Flaw, NumberFlaw};
-pub use crate::laws::{bytes_represent_one_number, stored_numbers_read_back, whole_reading_agrees};
+pub use crate::laws::{
+    any_zones_hold_numbers, bytes_represent_one_number, stored_numbers_read_back, strict_is_any,
+    whole_reading_agrees,
+};
 pub use crate::packed::Packed;
 pub use crate::packed_flaws::packed_flaw;
 pub use crate::reading::Reading;

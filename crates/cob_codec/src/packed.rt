@@ -44,7 +44,7 @@ impl Storage for Packed {
 }
 
 /// The number that packed bytes represent, if they do.
-fn read_packed(shape: &Shape, bytes: &[u8]) -> Option<Number>
+pub(crate) fn read_packed(shape: &Shape, bytes: &[u8]) -> Option<Number>
     requires { length bytes.now ≡ shape.now.digits / 2 + 1 }
     ensures found { IfSome result (λ v.
         IsPacked shape.now.digits shape.now.signed bytes.now v.negative v.digits) }

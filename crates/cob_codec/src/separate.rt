@@ -66,7 +66,7 @@ fn sign_read(byte: u8) -> Option<bool>
 }
 
 /// The byte of the sign and those of the digits.
-fn split_sign(leading: bool, bytes: &[u8]) -> (u8, &[u8])
+pub(crate) fn split_sign(leading: bool, bytes: &[u8]) -> (u8, &[u8])
     requires { 0 < length bytes.now }
     ensures parts { bytes.now
         ≡ (if leading then result.0 ∷ result.1.now else result.1.now ++ result.0 ∷ []) }

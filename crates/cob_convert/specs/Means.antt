@@ -6,22 +6,31 @@ use Rattle.cob_copybook_tree.specs.Nodes.{Resolved}
 use Rattle.cob_copybook.specs.declared.role.Role.{Role}
 use Rattle.cob_copybook.specs.declared.role.Role.TheVariants.{In, Out}
 use Rattle.cob_copybook.specs.Books.{IsBookOf, IsBookRefusal, IsMemory}
+use Rattle.cob_copybook_conditions.specs.Names.{AreConditionNamesOf}
 use Rattle.cob_copybook_entry.specs.declared.fault.BookFault.{BookFault}
 use Rattle.cob_records.specs.declared.records.Form.{Form}
 use Rattle.cob_records.specs.declared.records.Form.TheVariants.{Fixed, Variable, Blocked}
 use Rattle.cob_convert_record.specs.Conversion.{Conversion, conversion_by, out_length}
 use Rattle.cob_move.specs.Paragraphs.{IsParagraphOf, IsRefusalOf}
+use Rattle.cob_move_names.specs.Valued.{PlainConditionNames}
 use Rattle.cob_move_statements.specs.declared.fault.MoveFault.{MoveFault}
 use Rattle.cob_move_statements.specs.declared.fault.MoveRule.{MoveRule}
 use Rattle.cob_move_statements.specs.declared.fault.MoveRule.TheVariants as rule
 use Rattle.cob_convert.specs.declared.fault.PrepareFault.{PrepareFault}
 use Rattle.cob_convert.specs.declared.fault.PrepareFault.TheVariants.{InBook, OutBook, Moves, Block, Memory}
 
--- The texts say this conversion: the books describe its records, and the paragraph says what is done between them.
+-- The copybooks have these condition-names.
+pub record HaveConditionNames (in_book out_book : List ℕ) (names : PlainConditionNames) : Type 0 where
+  pub input : AreConditionNamesOf in_book names.input
+  pub output : AreConditionNamesOf out_book names.output
+
+-- The texts say this conversion: the books describe its records and have condition-names, and the paragraph says what is done between them.
 pub record Means (in_book out_book moves : List ℕ) (conversion : Conversion) : Type 0 where
   pub input : IsBookOf In in_book conversion.records.input
   pub output : IsBookOf Out out_book conversion.records.output
-  pub paragraph : IsParagraphOf moves conversion.records.input conversion.records.output conversion.deeds
+  pub names : PlainConditionNames
+  pub named : HaveConditionNames in_book out_book names
+  pub paragraph : IsParagraphOf moves conversion.records.input conversion.records.output names conversion.deeds
 
 -- The texts say this conversion with its binary senders read so: they say one, and it is the same with the senders of its moves read so.
 abbrev pub MeansBy : Reading → List ℕ → List ℕ → List ℕ → Conversion → Type 0
@@ -57,17 +66,17 @@ abbrev pub IsOfMemory : MoveRule → Type 0
 IsOfMemory rule.Memory = Unit {0}
 IsOfMemory _ = ⊥
 
--- The paragraph breaks the rule that is named, between records of these entries. Want of memory is never told as a rule.
-abbrev pub BreaksMoveRule : MoveFault → List ℕ → Forest Resolved → Forest Resolved → Type 0
-BreaksMoveRule f moves input output = IsRefusalOf f moves input output × (IsOfMemory f.rule → ⊥)
+-- The paragraph breaks the rule that is named, between records of these entries with these condition-names. Want of memory is never told as a rule.
+abbrev pub BreaksMoveRule : MoveFault → List ℕ → Forest Resolved → Forest Resolved → PlainConditionNames → Type 0
+BreaksMoveRule f moves input output names = IsRefusalOf f moves input output names × (IsOfMemory f.rule → ⊥)
 
 -- the paragraph is refused
-abbrev pub IsMovesRefusal : PrepareFault → List ℕ → Forest Resolved → Forest Resolved → Type 0
-IsMovesRefusal (InBook f) moves input output = ⊥
-IsMovesRefusal (OutBook f) moves input output = ⊥
-IsMovesRefusal (Moves f) moves input output = BreaksMoveRule f moves input output
-IsMovesRefusal (Block least) moves input output = ⊥
-IsMovesRefusal Memory moves input output = Unit {0}
+abbrev pub IsMovesRefusal : PrepareFault → List ℕ → Forest Resolved → Forest Resolved → PlainConditionNames → Type 0
+IsMovesRefusal (InBook f) moves input output names = ⊥
+IsMovesRefusal (OutBook f) moves input output names = ⊥
+IsMovesRefusal (Moves f) moves input output names = BreaksMoveRule f moves input output names
+IsMovesRefusal (Block least) moves input output names = ⊥
+IsMovesRefusal Memory moves input output names = Unit {0}
 
 -- what the refusal of a paragraph is for a converter, by its rule: a fault of the text stays one, and want of memory stays that
 abbrev pub moves_refusal_by : MoveRule → MoveFault → PrepareFault
@@ -99,8 +108,8 @@ abbrev pub IsPrepareRefusal : Form → PrepareFault → List ℕ → List ℕ �
 IsPrepareRefusal out_form (InBook f) in_book out_book moves = BreaksRule In f in_book
 IsPrepareRefusal out_form (OutBook f) in_book out_book moves = IsBook In in_book × BreaksRule Out f out_book
 IsPrepareRefusal out_form (Moves f) in_book out_book moves =
-    (input : Forest Resolved) × (output : Forest Resolved) × IsBookOf In in_book input × IsBookOf Out out_book output
-    × BreaksMoveRule f moves input output
+    (input : Forest Resolved) × (output : Forest Resolved) × (names : PlainConditionNames) × IsBookOf In in_book input × IsBookOf Out out_book output
+    × HaveConditionNames in_book out_book names × BreaksMoveRule f moves input output names
 IsPrepareRefusal out_form (Block least) in_book out_book moves =
     (conversion : Conversion) × Means in_book out_book moves conversion × IsTooShort out_form (out_length conversion) least
 IsPrepareRefusal out_form Memory in_book out_book moves = Unit {0}

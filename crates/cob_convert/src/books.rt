@@ -8,9 +8,11 @@ ghost use Rattle.cob_copybook.specs.Books.{IsBookOf, IsBookRefusal, IsMemory};
 ghost use Rattle.cob_convert.specs.Means.{IsInRefusal, IsOutRefusal};
 ghost use Rattle.cob_copybook.specs.declared.role.Role.TheVariants.{In, Out};
 ghost use Rattle.cob_convert.specs.declared.fault.PrepareFault.TheVariants.{Memory};
+ghost use Rattle.cob_copybook_conditions.specs.Names.{AreConditionNamesOf, PlainConditionName, plain_condition_names};
 
 use crate::fault::PrepareFault;
 use cob_copybook::{Book, BookFault, BookRule, Role};
+use cob_copybook_conditions::{ConditionName, condition_names};
 use std::alloc::Global;
 
 /// Whether a book is refused for want of memory.
@@ -76,6 +78,40 @@ pub fn out_book(alloc: Global, text: &[u8]) -> Result<Book, PrepareFault>
 {
     match Book::read(alloc, Role::Out, text) {
         Ok(book) => Ok(book),
+        Err(fault) => Err(out_refusal(fault)),
+    }
+}
+
+/// The condition-names of the copybook of the input record.
+///
+/// # Errors
+///
+/// [`PrepareFault::InBook`], [`PrepareFault::Memory`].
+pub fn in_names(alloc: Global, text: &[u8]) -> Result<Vec<ConditionName>, PrepareFault>
+    ensures found { IfOk result (λ v. AreConditionNamesOf text.now (plain_condition_names v.items)) }
+    ensures only { (ns : List PlainConditionName) → AreConditionNamesOf text.now ns
+        → IfOk result (λ v. plain_condition_names v.items ≡ ns) × IfErr result (λ f. f ≡ Memory) }
+    ensures refused { IfErr result (λ f. IsInRefusal f text.now) }
+{
+    match condition_names(alloc, text) {
+        Ok(names) => Ok(names),
+        Err(fault) => Err(in_refusal(fault)),
+    }
+}
+
+/// The condition-names of the copybook of the output record.
+///
+/// # Errors
+///
+/// [`PrepareFault::OutBook`], [`PrepareFault::Memory`].
+pub fn out_names(alloc: Global, text: &[u8]) -> Result<Vec<ConditionName>, PrepareFault>
+    ensures found { IfOk result (λ v. AreConditionNamesOf text.now (plain_condition_names v.items)) }
+    ensures only { (ns : List PlainConditionName) → AreConditionNamesOf text.now ns
+        → IfOk result (λ v. plain_condition_names v.items ≡ ns) × IfErr result (λ f. f ≡ Memory) }
+    ensures refused { IfErr result (λ f. IsOutRefusal f text.now) }
+{
+    match condition_names(alloc, text) {
+        Ok(names) => Ok(names),
         Err(fault) => Err(out_refusal(fault)),
     }
 }

@@ -2,6 +2,7 @@ ghost use Rattle.std.specs.Prelude.{◌≡◌, ◌<◌, ◌≤◌, IfOk, IfErr, 
 ghost use Rattle.cob_move_apply.specs.Prepared.{most_moves_told, single_moves};
 ghost use Rattle.cob_records.specs.Device.{counted, Told};
 ghost use Rattle.cob_move.specs.Paragraphs.{IsParagraphOf};
+ghost use Rattle.cob_move_names.specs.Valued.{plain_names};
 ghost use Rattle.cob_limits.specs.Limits.{longest_record};
 ghost use Rattle.cob_convert_record.specs.Conversion.{conversion_by, in_length, out_length, Conversion as Meant, IsImage};
 ghost use Rattle.cob_move_deeds.specs.Deeds.{Deeds, moves_of_deeds};
@@ -22,7 +23,7 @@ use cob_convert_record::{Conversion, Room, image_of};
 use cob_convert_stream::RunFault;
 use cob_copybook::Book;
 use cob_layout::Layout;
-use cob_move::Paragraph;
+use cob_move::{ConditionNames, Paragraph};
 use cob_records::{Form, Outlet, Sink, Source};
 use std::alloc::{AllocError, Global};
 use std::marker::Model;
@@ -129,6 +130,7 @@ fn conversion_of(
     out_form: Form,
     input: Book,
     output: Book,
+    names: ConditionNames<'_>,
     moves: &[u8],
 ) -> Result<Conversion, PrepareFault>
     requires in_block { HasBlockSize in_form }
@@ -136,14 +138,14 @@ fn conversion_of(
     ensures forms { IfOk result (λ made. (made.in_form ≡ in_form) × (made.out_form ≡ out_form)) }
     ensures input { IfOk result (λ made. made.records.input ≡ input) }
     ensures output { IfOk result (λ made. made.records.output ≡ output) }
-    ensures paragraph { IfOk result (λ made. IsParagraphOf moves.now input output made.deeds) }
-    ensures only { (d : Deeds Test) → IsParagraphOf moves.now input output d
+    ensures paragraph { IfOk result (λ made. IsParagraphOf moves.now input output (plain_names names.entry) made.deeds) }
+    ensures only { (d : Deeds Test) → IsParagraphOf moves.now input output (plain_names names.entry) d
         → IfErr result (λ fault. fault ≡ Memory) }
-    ensures refused { IfErr result (λ fault. IsMovesRefusal fault moves.now input output) }
+    ensures refused { IfErr result (λ fault. IsMovesRefusal fault moves.now input output (plain_names names.entry)) }
 {
     let in_layout = layout_of(alloc, input)?;
     let (out_layout, image) = layout_and_image(alloc, output)?;
-    let paragraph = Paragraph::read(alloc, &in_layout, &out_layout, moves)?;
+    let paragraph = Paragraph::read(alloc, &in_layout, &out_layout, names, moves)?;
     Ok(Conversion::new(
         in_form,
         out_form,
@@ -230,7 +232,13 @@ impl Converter {
     {
         let input = books::in_book(alloc, in_book)?;
         let output = books::out_book(alloc, out_book)?;
-        let conversion = conversion_of(alloc, in_form, out_form, input, output, moves)?;
+        let in_names = books::in_names(alloc, in_book)?;
+        let out_names = books::out_names(alloc, out_book)?;
+        let names = ConditionNames {
+            input: in_names.as_slice(),
+            output: out_names.as_slice(),
+        };
+        let conversion = conversion_of(alloc, in_form, out_form, input, output, names, moves)?;
         check_block(out_form, conversion.out_length())?;
         Ok(Converter::of(alloc, conversion)?)
     }

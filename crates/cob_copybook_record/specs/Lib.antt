@@ -1,3 +1,4 @@
 pub mod OneRecord
+pub mod RecordName
 pub mod Refusals
 pub mod Laws

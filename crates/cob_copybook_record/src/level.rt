@@ -23,7 +23,7 @@ pub(crate) fn is_text_of(token: &Token, text: &[u8]) -> bool
 }
 
 /// Whether it is level 01.
-fn is_record_level(token: &Token) -> bool
+pub(crate) fn is_record_level(token: &Token) -> bool
     ensures { result ≡ is_record_level (lexeme token.now) }
 {
     is_text_of(token, b"01") || is_text_of(token, b"1")

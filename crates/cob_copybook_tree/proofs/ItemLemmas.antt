@@ -1,20 +1,23 @@
 -- Bytes of an item represent one number, whatever its kind of storage.
-use Rattle.std.proofs.Common.{◌≡◌, ℕ, ◌<◌, List, refl, sym, subst, arith, Bool}
+use Rattle.std.proofs.Common.{◌≡◌, ℕ, ◌<◌, List, Option, Some, None, refl, sym, subst, arith, Bool, false}
+use Rattle.std.specs.Prelude.{IfNone}
 use Rattle.cob_picture.specs.Positions.{PlainPicture}
 use Rattle.cob_picture.specs.Counts.{digits, signed, size}
 use Rattle.cob_copybook_tree.specs.declared.node.Item.{Item}
 use Rattle.cob_copybook_tree.specs.Lengths.{item_size}
 use Rattle.cob_codec.specs.Sign.{IsHeld}
+use Rattle.cob_codec.specs.declared.flaw.NumberFlaw.{NumberFlaw}
 use Rattle.cob_codec.specs.declared.reading.Reading.{Reading}
-use Rattle.cob_codec.specs.declared.reading.Reading.TheVariants.{Pictured, Whole}
+use Rattle.cob_codec.specs.declared.reading.Reading.TheVariants.{AnyZones, Pictured, Whole, WholeAnyZones}
 use Rattle.cob_codec.proofs.ZonedLaws as zoned
 use Rattle.cob_codec.proofs.SeparateLaws as separate
 use Rattle.cob_codec.proofs.PackedLaws as packed
 use Rattle.cob_codec.proofs.BinaryLaws as binary
+use Rattle.cob_codec.proofs.AnyZoneLaws as any
 use Rattle.cob_copybook_tree.specs.declared.kinds.StorageKind.{StorageKind}
 use Rattle.cob_copybook_tree.specs.declared.kinds.StorageKind.TheVariants.{Zoned, Separate, Packed, Binary}
-use Rattle.cob_copybook_tree.specs.Items.{IsNumberItem, Represents, stored_form, OneItemNumber, OneSentNumber, ItemReadsBack, HoldsNumbers, storage_kind}
-use Rattle.cob_copybook_tree.specs.Storage.{RepresentsAs, SentAs, TakesPicture, is_leading, size_as, stored_size, written_as}
+use Rattle.cob_copybook_tree.specs.Items.{IsNumberItem, Represents, stored_form, OneItemNumber, OneSentNumber, ItemReadsBack, HoldsNumbers, StrictIsAny, IsSentBy, storage_kind}
+use Rattle.cob_copybook_tree.specs.Storage.{AnyZonesAs, RepresentsAs, SentAs, TakesPicture, is_leading, is_read_whole, size_as, stored_size, written_as}
 
 one_as : (f : StorageKind) (leading : Bool) (p : PlainPicture) (bytes : List ℕ) (a b : Bool) (ds es : List ℕ)
     → RepresentsAs f leading p bytes a ds → RepresentsAs f leading p bytes b es → (a ≡ b) × (ds ≡ es)
@@ -26,6 +29,13 @@ one_as Binary leading p bytes a b ds es x y = binary.one_number (digits p.positi
 pub one_number : OneItemNumber
 one_number i bytes a b ds es x y = one_as (storage_kind i) (is_leading i.sign) i.picture bytes a b ds es x y
 
+one_any_as : (f : StorageKind) (leading : Bool) (p : PlainPicture) (bytes : List ℕ) (a b : Bool) (ds es : List ℕ)
+    → AnyZonesAs f leading p bytes a ds → AnyZonesAs f leading p bytes b es → (a ≡ b) × (ds ≡ es)
+one_any_as Zoned leading p bytes a b ds es x y = any.one_zoned (digits p.positions) (signed p.positions) leading bytes a b ds es x y
+one_any_as Separate leading p bytes a b ds es x y = any.one_separate (digits p.positions) leading bytes a b ds es x y
+one_any_as Packed leading p bytes a b ds es x y = any.one_packed (digits p.positions) (signed p.positions) bytes a b ds es x y
+one_any_as Binary leading p bytes a b ds es x y = binary.one_number (digits p.positions) (signed p.positions) bytes a b ds es x y
+
 one_sent_as : (reading : Reading) (f : StorageKind) (leading : Bool) (p : PlainPicture) (bytes : List ℕ) (a b : Bool) (ds es : List ℕ)
     → SentAs reading f leading p bytes a ds → SentAs reading f leading p bytes b es → (a ≡ b) × (ds ≡ es)
 one_sent_as Pictured f leading p bytes a b ds es x y = one_as f leading p bytes a b ds es x y
@@ -33,9 +43,53 @@ one_sent_as Whole Zoned leading p bytes a b ds es x y = one_as Zoned leading p b
 one_sent_as Whole Separate leading p bytes a b ds es x y = one_as Separate leading p bytes a b ds es x y
 one_sent_as Whole Packed leading p bytes a b ds es x y = one_as Packed leading p bytes a b ds es x y
 one_sent_as Whole Binary leading p bytes a b ds es x y = binary.one_whole (digits p.positions) (signed p.positions) bytes a b ds es x y
+one_sent_as AnyZones f leading p bytes a b ds es x y = one_any_as f leading p bytes a b ds es x y
+one_sent_as WholeAnyZones Zoned leading p bytes a b ds es x y = one_any_as Zoned leading p bytes a b ds es x y
+one_sent_as WholeAnyZones Separate leading p bytes a b ds es x y = one_any_as Separate leading p bytes a b ds es x y
+one_sent_as WholeAnyZones Packed leading p bytes a b ds es x y = one_any_as Packed leading p bytes a b ds es x y
+one_sent_as WholeAnyZones Binary leading p bytes a b ds es x y = binary.one_whole (digits p.positions) (signed p.positions) bytes a b ds es x y
 
 pub one_sent : OneSentNumber
 one_sent reading i bytes a b ds es x y = one_sent_as reading (storage_kind i) (is_leading i.sign) i.picture bytes a b ds es x y
+
+any_as : (f : StorageKind) (leading : Bool) (p : PlainPicture) (bytes : List ℕ) (negative : Bool) (ds : List ℕ)
+    → RepresentsAs f leading p bytes negative ds → AnyZonesAs f leading p bytes negative ds
+any_as Zoned leading p bytes negative ds x = any.zoned_is_any (digits p.positions) (signed p.positions) leading bytes negative ds x
+any_as Separate leading p bytes negative ds x = any.separate_is_any (digits p.positions) leading bytes negative ds x
+any_as Packed leading p bytes negative ds x = any.packed_is_any (digits p.positions) (signed p.positions) bytes negative ds x
+any_as Binary leading p bytes negative ds x = x
+
+whole_any_as : (f : StorageKind) (leading : Bool) (p : PlainPicture) (bytes : List ℕ) (negative : Bool) (ds : List ℕ)
+    → SentAs Whole f leading p bytes negative ds → SentAs WholeAnyZones f leading p bytes negative ds
+whole_any_as Zoned leading p bytes negative ds x = any_as Zoned leading p bytes negative ds x
+whole_any_as Separate leading p bytes negative ds x = any_as Separate leading p bytes negative ds x
+whole_any_as Packed leading p bytes negative ds x = any_as Packed leading p bytes negative ds x
+whole_any_as Binary leading p bytes negative ds x = x
+
+pub strict_is_any : StrictIsAny
+strict_is_any i bytes negative ds =
+    (λ x. any_as (storage_kind i) (is_leading i.sign) i.picture bytes negative ds x, λ x. whole_any_as (storage_kind i) (is_leading i.sign) i.picture bytes negative ds x)
+
+-- what is read in one way whether whole or not is sent by every reading
+sent_strictly : (f : StorageKind) (leading : Bool) (p : PlainPicture) (bytes : List ℕ) (negative : Bool) (ds : List ℕ) → is_read_whole f ≡ false
+    → RepresentsAs f leading p bytes negative ds → (reading : Reading) → SentAs reading f leading p bytes negative ds
+sent_strictly f leading p bytes negative ds other x Pictured = x
+sent_strictly Zoned leading p bytes negative ds other x Whole = x
+sent_strictly Separate leading p bytes negative ds other x Whole = x
+sent_strictly Packed leading p bytes negative ds other x Whole = x
+sent_strictly Binary leading p bytes negative ds other x Whole = absurd (cc)
+sent_strictly f leading p bytes negative ds other x AnyZones = any_as f leading p bytes negative ds x
+sent_strictly Zoned leading p bytes negative ds other x WholeAnyZones = any_as Zoned leading p bytes negative ds x
+sent_strictly Separate leading p bytes negative ds other x WholeAnyZones = any_as Separate leading p bytes negative ds x
+sent_strictly Packed leading p bytes negative ds other x WholeAnyZones = any_as Packed leading p bytes negative ds x
+sent_strictly Binary leading p bytes negative ds other x WholeAnyZones = absurd (cc)
+
+pub none_flawed : (i : Item) (bytes : List ℕ) (o : Option NumberFlaw) → IfNone o (is_read_whole (storage_kind i) ≡ false)
+    → IfNone o ((negative : Bool) × (digits : List ℕ) × Represents i bytes negative digits)
+    → IfNone o ((reading : Reading) → (negative : Bool) × (digits : List ℕ) × IsSentBy reading i bytes negative digits)
+none_flawed i bytes None other (negative, digits, x) =
+    λ reading. (negative, digits, sent_strictly (storage_kind i) (is_leading i.sign) i.picture bytes negative digits other x reading)
+none_flawed i bytes (Some f) other x = x
 
 reads_back_as : (f : StorageKind) (leading : Bool) (p : PlainPicture) (negative : Bool) (ds : List ℕ) → TakesPicture f p → 0 < digits p.positions → IsHeld (digits p.positions) (signed p.positions) negative ds
     → RepresentsAs f leading p (written_as f leading p negative ds) negative ds

@@ -4,6 +4,7 @@ use Rattle.cob_picture.specs.Counts.{digits, signed, size}
 use Rattle.cob_codec.specs.Sign.{IsHeld}
 use Rattle.cob_codec.specs.declared.flaw.NumberFlaw.{NumberFlaw}
 use Rattle.cob_codec.specs.declared.reading.Reading.{Reading}
+use Rattle.cob_codec.specs.declared.reading.Reading.TheVariants.{AnyZones, Pictured, Whole, WholeAnyZones}
 use Rattle.cob_copybook_tree.specs.declared.kinds.StorageKind.{StorageKind}
 use Rattle.cob_copybook_tree.specs.declared.node.Item.{Item}
 use Rattle.cob_copybook_tree.specs.Lengths.{item_size}
@@ -59,3 +60,8 @@ ItemReadsBack = (i : Item) (negative : Bool) (ds : List ℕ) → IsNumberItem i 
 abbrev pub HoldsNumbers : Type 0
 HoldsNumbers = (i : Item) (bytes : List ℕ) (negative : Bool) (ds : List ℕ) → IsNumberItem i → Represents i bytes negative ds
     → IsHeld (digits i.picture.positions) (signed i.picture.positions) negative ds
+
+-- a number that the bytes of an item represent by a strict reading of zones is what they represent by any zones too
+abbrev pub StrictIsAny : Type 0
+StrictIsAny = (i : Item) (bytes : List ℕ) (negative : Bool) (ds : List ℕ)
+    → (IsSentBy Pictured i bytes negative ds → IsSentBy AnyZones i bytes negative ds) × (IsSentBy Whole i bytes negative ds → IsSentBy WholeAnyZones i bytes negative ds)

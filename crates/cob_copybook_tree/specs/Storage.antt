@@ -1,5 +1,5 @@
 -- The kinds of storage of a number, and all that depends on the kind.
-use Rattle.std.specs.Prelude.{◌≡◌, ℕ, ◌+◌, ◌-◌, ◌/◌, ◌≤◌, pos, ◌-ℤ◌, ◌≤ℤ◌, Bool, true, false, if◌then◌else◌, List, length, codes, Option, Some, None}
+use Rattle.std.specs.Prelude.{◌≡◌, ℕ, ◌+◌, ◌-◌, ◌/◌, ◌≤◌, pos, ◌-ℤ◌, ◌≤ℤ◌, Bool, true, false, not, if◌then◌else◌, List, length, codes, Option, Some, None}
 use Rattle.cob_limits.specs.Limits.{most_binary_digits}
 use Rattle.cob_picture.specs.Positions.{PlainPicture}
 use Rattle.cob_picture.specs.Counts.{digits, scale, signed, size}
@@ -8,11 +8,13 @@ use Rattle.cob_codec.specs.Zoned.{IsZoned, zoned_form}
 use Rattle.cob_codec.specs.Separate.{IsSignedSeparately, separate_form}
 use Rattle.cob_codec.specs.Packed.{IsPacked, halves, packed_form}
 use Rattle.cob_codec.specs.Binary.{IsBinary, IsWholeBinary, binary_form, binary_length}
+use Rattle.cob_codec.specs.AnyZones.{IsPackedByAnyZones, IsSeparateByAnyZones, IsZonedByAnyZones}
+use Rattle.cob_codec.specs.Readings.{reads_whole, takes_any_zones}
 use Rattle.cob_codec.specs.Flaws.{IsFirstFlaw, packed_wanted, separate_wanted, zoned_wanted}
 use Rattle.cob_codec.specs.declared.flaw.NumberFlaw.{NumberFlaw}
 use Rattle.cob_codec.specs.declared.flaw.NumberFlaw.TheVariants.{Part, Range}
 use Rattle.cob_codec.specs.declared.reading.Reading.{Reading}
-use Rattle.cob_codec.specs.declared.reading.Reading.TheVariants.{Pictured, Whole}
+use Rattle.cob_codec.specs.declared.reading.Reading.TheVariants.{AnyZones, Pictured, Whole, WholeAnyZones}
 use Rattle.cob_copybook_entry.specs.declared.kinds.Usage.{Usage}
 use Rattle.cob_copybook_entry.specs.declared.kinds.Usage.TheVariants as usage
 use Rattle.cob_copybook_entry.specs.declared.kinds.Sign.{Sign}
@@ -54,14 +56,33 @@ RepresentsAs Separate leading p bytes negative ds = IsSignedSeparately (digits p
 RepresentsAs Packed leading p bytes negative ds = IsPacked (digits p.positions) (signed p.positions) bytes negative ds
 RepresentsAs Binary leading p bytes negative ds = IsBinary (digits p.positions) (signed p.positions) bytes negative ds
 
+-- bytes of this kind represent the number of these digits where they are read by any zones; binary ones what they do anyhow
+abbrev pub AnyZonesAs : StorageKind → Bool → PlainPicture → List ℕ → Bool → List ℕ → Type 0
+AnyZonesAs Zoned leading p bytes negative ds = IsZonedByAnyZones (digits p.positions) (signed p.positions) leading bytes negative ds
+AnyZonesAs Separate leading p bytes negative ds = IsSeparateByAnyZones (digits p.positions) leading bytes negative ds
+AnyZonesAs Packed leading p bytes negative ds = IsPackedByAnyZones (digits p.positions) (signed p.positions) bytes negative ds
+AnyZonesAs Binary leading p bytes negative ds = IsBinary (digits p.positions) (signed p.positions) bytes negative ds
+
 -- bytes of this kind represent the number of these digits where they are sent by a reading: whole, binary bytes represent the number of all of
--- them; all else represents what it does anyhow
+-- them; by any zones, other bytes represent what they do so; all else represents what it does anyhow
 abbrev pub SentAs : Reading → StorageKind → Bool → PlainPicture → List ℕ → Bool → List ℕ → Type 0
 SentAs Pictured kind leading p bytes negative ds = RepresentsAs kind leading p bytes negative ds
 SentAs Whole Zoned leading p bytes negative ds = RepresentsAs Zoned leading p bytes negative ds
 SentAs Whole Separate leading p bytes negative ds = RepresentsAs Separate leading p bytes negative ds
 SentAs Whole Packed leading p bytes negative ds = RepresentsAs Packed leading p bytes negative ds
 SentAs Whole Binary leading p bytes negative ds = IsWholeBinary (digits p.positions) (signed p.positions) bytes negative ds
+SentAs AnyZones kind leading p bytes negative ds = AnyZonesAs kind leading p bytes negative ds
+SentAs WholeAnyZones Zoned leading p bytes negative ds = AnyZonesAs Zoned leading p bytes negative ds
+SentAs WholeAnyZones Separate leading p bytes negative ds = AnyZonesAs Separate leading p bytes negative ds
+SentAs WholeAnyZones Packed leading p bytes negative ds = AnyZonesAs Packed leading p bytes negative ds
+SentAs WholeAnyZones Binary leading p bytes negative ds = IsWholeBinary (digits p.positions) (signed p.positions) bytes negative ds
+
+-- by this reading, bytes of this kind represent what they represent as their picture says, and nothing else
+abbrev pub reads_strictly : Reading → StorageKind → Bool
+reads_strictly reading Zoned = not (takes_any_zones reading)
+reads_strictly reading Separate = not (takes_any_zones reading)
+reads_strictly reading Packed = not (takes_any_zones reading)
+reads_strictly reading Binary = not (reads_whole reading)
 
 -- read whole, bytes of this kind may represent a number that they do not represent as their picture says
 abbrev pub is_read_whole : StorageKind → Bool

@@ -1,4 +1,4 @@
-ghost use Rattle.cob_copybook_tree.specs.Items.{HoldsNumbers, OneItemNumber, OneSentNumber, ItemReadsBack};
+ghost use Rattle.cob_copybook_tree.specs.Items.{HoldsNumbers, OneItemNumber, OneSentNumber, ItemReadsBack, StrictIsAny};
 
 /// The bytes of an item represent at most one number.
 pub fn one_number()
@@ -18,4 +18,9 @@ pub fn stored_numbers_read_back()
 /// What the bytes of an item represent has the picture's digits, and a minus only where the picture has a sign.
 pub fn items_hold_numbers()
     ensures { HoldsNumbers }
+{}
+
+/// What the bytes of an item represent by a strict reading of zones, they represent by any zones too.
+pub fn strict_is_any()
+    ensures { StrictIsAny }
 {}

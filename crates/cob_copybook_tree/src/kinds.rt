@@ -1,13 +1,13 @@
 //! The kinds of storage of a number, and all that depends on the kind.
 
-ghost use Rattle.std.specs.Prelude.{◌≡◌, ◌<◌, ◌≤◌, ℕ, Bool, List, length, option_map, IfNone, IfSome, IsTrue};
+ghost use Rattle.std.specs.Prelude.{◌≡◌, ◌<◌, ◌≤◌, ℕ, Bool, false, List, length, option_map, IfNone, IfSome, IsTrue};
 ghost use Rattle.std.specs.Bool.{OnTrue};
 ghost use Rattle.cob_codec.specs.Binary.{binary_length};
 ghost use Rattle.cob_codec.specs.Naturals.{IsNaturalOf};
 ghost use Rattle.cob_codec.specs.Sign.{IsHeld};
 ghost use Rattle.cob_codec.specs.declared.flaw.NumberFlaw.TheVariants.{Part};
 ghost use Rattle.cob_codec.specs.declared.reading.Reading.{Reading};
-ghost use Rattle.cob_codec.specs.declared.reading.Reading.TheVariants.{Whole};
+ghost use Rattle.cob_codec.specs.declared.reading.Reading.TheVariants.{AnyZones, Whole, WholeAnyZones};
 ghost use Rattle.cob_decimal.specs.Answers.{AnswersNumber};
 ghost use Rattle.cob_picture.specs.Counts.{digits, scale, signed};
 ghost use Rattle.cob_copybook_tree.specs.Items.{storage_kind, IsFlawOf, IsNumberItem, IsSentBy, Represents, stored_form};
@@ -207,6 +207,44 @@ pub(crate) fn read_whole(item: &Item, bytes: &[u8]) -> Option<Number>
     }
 }
 
+/// The number of an item's bytes by any zones, of a binary item the number that its bytes represent.
+pub(crate) fn read_any_zones(item: &Item, bytes: &[u8]) -> Option<Number>
+    requires number { IsNumberItem item.now }
+    requires long { length bytes.now ≡ item_size item.now }
+    ensures found { IfSome result (λ v. IsSentBy AnyZones item.now bytes.now v.negative v.digits) }
+    ensures scale { IfSome result (λ v. v.scale ≡ scale item.now.picture.positions) }
+    ensures only { (negative : Bool) (digits : List ℕ)
+        → IsSentBy AnyZones item.now bytes.now negative digits
+        → AnswersNumber result negative digits }
+{
+    let shape = item.shape();
+    match item.storage_kind() {
+        StorageKind::Zoned => Zoned::read_any_zones(&shape, bytes),
+        StorageKind::Separate => Separate::read_any_zones(&shape, bytes),
+        StorageKind::Packed => Packed::read_any_zones(&shape, bytes),
+        StorageKind::Binary => Binary::read(&shape, bytes),
+    }
+}
+
+/// The number of all bytes of a binary item, and of another item the number of its bytes by any zones.
+pub(crate) fn read_whole_any_zones(item: &Item, bytes: &[u8]) -> Option<Number>
+    requires number { IsNumberItem item.now }
+    requires long { length bytes.now ≡ item_size item.now }
+    ensures found { IfSome result
+        (λ v. IsSentBy WholeAnyZones item.now bytes.now v.negative v.digits) }
+    ensures scale { IfSome result (λ v. v.scale ≡ scale item.now.picture.positions) }
+    ensures only { (negative : Bool) (digits : List ℕ)
+        → IsSentBy WholeAnyZones item.now bytes.now negative digits
+        → AnswersNumber result negative digits }
+{
+    match item.storage_kind() {
+        StorageKind::Zoned => read_any_zones(item, bytes),
+        StorageKind::Separate => read_any_zones(item, bytes),
+        StorageKind::Packed => read_any_zones(item, bytes),
+        StorageKind::Binary => Some(Binary::read_whole(&item.shape(), bytes)),
+    }
+}
+
 /// Writes the stored form of a number into all bytes of an item.
 ///
 /// The number has exactly the digits and the scale of the item's picture, as `Number::align` makes it, and is negative only where the picture
@@ -277,6 +315,24 @@ fn part(flaw: Option<Flaw>) -> Option<NumberFlaw>
     }
 }
 
+/// What is wrong with the bytes of an item: nothing, but of binary ones, only where they represent a number as its picture says.
+fn strict_flaw(item: &Item, bytes: &[u8]) -> Option<NumberFlaw>
+    requires number { IsNumberItem item.now }
+    requires long { length bytes.now ≡ item_size item.now }
+    ensures found { IfSome result (IsFlawOf item.now bytes.now) }
+    ensures steady { IfNone result (is_read_whole (storage_kind item.now) ≡ false) }
+    ensures none { IfNone result ((negative : Bool) × (digits : List ℕ)
+        × Represents item.now bytes.now negative digits) }
+{
+    let shape = item.shape();
+    match item.storage_kind() {
+        StorageKind::Zoned => part(zoned_flaw(&shape, bytes)),
+        StorageKind::Separate => part(separate_flaw(&shape, bytes)),
+        StorageKind::Packed => part(packed_flaw(&shape, bytes)),
+        StorageKind::Binary => Some(NumberFlaw::Range),
+    }
+}
+
 impl Item {
     /// Its kind of storage.
     #[inline(always)]
@@ -316,12 +372,6 @@ impl Item {
         ensures none { IfNone result ((reading : Reading) → (negative : Bool) × (digits : List ℕ)
             × IsSentBy reading self.now bytes.now negative digits) }
     {
-        let shape = self.shape();
-        match self.storage_kind() {
-            StorageKind::Zoned => part(zoned_flaw(&shape, bytes)),
-            StorageKind::Separate => part(separate_flaw(&shape, bytes)),
-            StorageKind::Packed => part(packed_flaw(&shape, bytes)),
-            StorageKind::Binary => Some(NumberFlaw::Range),
-        }
+        strict_flaw(self, bytes)
     }
 }

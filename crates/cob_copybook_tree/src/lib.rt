@@ -33,14 +33,14 @@
 //!   (`bytes`), of one that the item can hold (`held`), and these bytes represent it (`reads`). The words for these are in specs/Items.antt: `Represents`,
 //!   `stored_form`, and `IsNumberItem`, which says of which items this is said ([`is_number_item`] tells); `IsStorable` says of any item that its bytes can
 //!   hold what it describes.
-//! - The laws: bytes represent at most one number ([`one_number`], [`one_sent_number`]), what was stored reads back ([`stored_numbers_read_back`]), and what
-//!   bytes represent is a number of the picture's digits and sign ([`items_hold_numbers`]).
+//! - The laws: bytes represent at most one number ([`one_number`], [`one_sent_number`]), what was stored reads back ([`stored_numbers_read_back`]), what
+//!   bytes represent is a number of the picture's digits and sign ([`items_hold_numbers`]), and is read by any zones too ([`strict_is_any`]).
 //!
 //! # Where it is proved
 //!
 //! The clauses of `build_tree`, `resolve`, `Item::size`, `element_length`, `whole_length`, `read_number`, `read_sent`, `store_number`, and of the methods
 //! of `StorageKind` and `Item` on kinds of storage; the laws `one_tree`, `as_many_entries`, `one_number`, `one_sent_number`, `stored_numbers_read_back`,
-//! `items_hold_numbers`.
+//! `items_hold_numbers`, `strict_is_any`.
 #![tactic(auto)]
 
 mod branch;
@@ -58,7 +58,9 @@ pub use cob_codec::Reading;
 pub use cob_copybook_entry::{
     BookFault, BookRule, Entry, Figurative, Name, Occurs, Qualified, Sign, Text, Usage, Value,
 };
-pub use item_laws::{items_hold_numbers, one_number, one_sent_number, stored_numbers_read_back};
+pub use item_laws::{
+    items_hold_numbers, one_number, one_sent_number, stored_numbers_read_back, strict_is_any,
+};
 pub use kinds::{StorageKind, read_number, store_number};
 pub use laws::{as_many_entries, branch_opens, node_opens, one_tree};
 pub use lengths::{MANY, element_length, whole_length};

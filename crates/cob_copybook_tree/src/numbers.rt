@@ -9,7 +9,7 @@ ghost use Rattle.cob_copybook_tree.specs.Resolving.{is_numeric};
 ghost use Rattle.cob_copybook_tree.specs.Storage.{is_leading, size_as};
 
 use crate::Item;
-use crate::kinds::{is_leading, read_number, read_whole};
+use crate::kinds::{is_leading, read_any_zones, read_number, read_whole, read_whole_any_zones};
 use crate::resolving::is_numeric;
 use cob_codec::{Reading, Shape};
 use cob_decimal::Number;
@@ -53,5 +53,7 @@ pub fn read_sent(reading: Reading, item: &Item, bytes: &[u8]) -> Option<Number>
     match reading {
         Reading::Pictured => read_number(item, bytes),
         Reading::Whole => read_whole(item, bytes),
+        Reading::AnyZones => read_any_zones(item, bytes),
+        Reading::WholeAnyZones => read_whole_any_zones(item, bytes),
     }
 }

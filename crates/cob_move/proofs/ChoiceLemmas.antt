@@ -29,7 +29,7 @@ use Rattle.cob_move_loops.specs.Turns.{Counted}
 use Rattle.cob_move_statements.specs.declared.fault.MoveRule.TheVariants as rule
 use Rattle.cob_move_tests.specs.declared.entries.Entries.{Entries}
 use Rattle.cob_move_tests.specs.declared.entries.NamedEntry.{NamedEntry}
-use Rattle.cob_move_tests.specs.Entries.{AllMayBeNamed, records_of}
+use Rattle.cob_move_tests.specs.Entries.{AllMayBeNamed, records_of, valued_in}
 use Rattle.cob_move.specs.declared.made.NotRead.{NotRead}
 use Rattle.cob_move.specs.declared.made.NotRead.TheVariants as why
 use Rattle.cob_move.specs.DeedsLaws.{DeedsBreakNoRule, OneDeeds}
@@ -181,7 +181,7 @@ branches_begin e ns a p m = record {
 
 -- a WHEN without statements: its test waits for those of the next
 pub branch_waits : (e : Entries) (ns : List Counted) (a : Against) (p q : Passage) (ws : List Lexeme) (body others : Passage) (waiting : Option code.Condition) (own c : code.Condition) (taken : List TakenBranch) (old now : MadeLists) (asked : List NamedEntry)
-    → q ≡ ABranch (Tested ws) body others → body ≡ NoMore → ((more : List NamedEntry) × (asked ≡ now.asked ++ more)) → IsBranchTestOf (records_of e) ns a ws (condition_of (sender_named (records_of e) asked) own)
+    → q ≡ ABranch (Tested ws) body others → body ≡ NoMore → ((more : List NamedEntry) × (asked ≡ now.asked ++ more)) → IsBranchTestOf (records_of e) (valued_in e) ns a ws (condition_of (sender_named (records_of e) asked) own)
     → (so : ReadsBranches e ns a p q waiting taken old now) → condition_of (sender_named (records_of e) asked) c ≡ joined_test so.waits (condition_of (sender_named (records_of e) asked) own)
     → MayBeTested (IsAsked asked) (kind_named (records_of e) asked) c → BeginsTested others → ReadsBranches e ns a p others (Some c) taken old (with_asked now asked)
 branch_waits e ns a p q ws body others waiting own c taken old now asked same empty more is so means tested begins =
@@ -244,7 +244,7 @@ branch_made r now mid c g tested made =
     (subst (λ (t : List NamedEntry). MayBeTested (IsAsked t) (kind_named r t) c) (sym (closed_asked mid)) (tested_front r now.asked mid.asked c g.asked tested)) (closed_made r mid made)
 
 pub branch_taken : OneDeeds → (e : Entries) (ns : List Counted) (a : Against) (p q : Passage) (ws : List Lexeme) (body others : Passage) (waiting : Option code.Condition) (own c : code.Condition) (taken : List TakenBranch) (old before mid : MadeLists) (asked : List NamedEntry)
-    → q ≡ ABranch (Tested ws) body others → (body ≡ NoMore → ⊥) → ((more : List NamedEntry) × (asked ≡ before.asked ++ more)) → IsBranchTestOf (records_of e) ns a ws (condition_of (sender_named (records_of e) asked) own)
+    → q ≡ ABranch (Tested ws) body others → (body ≡ NoMore → ⊥) → ((more : List NamedEntry) × (asked ≡ before.asked ++ more)) → IsBranchTestOf (records_of e) (valued_in e) ns a ws (condition_of (sender_named (records_of e) asked) own)
     → (so : ReadsBranches e ns a p q waiting taken old before) → condition_of (sender_named (records_of e) asked) c ≡ joined_test so.waits (condition_of (sender_named (records_of e) asked) own)
     → MayBeTested (IsAsked asked) (kind_named (records_of e) asked) c → BranchRead e ns body (with_asked before asked) mid
     → ReadsBranches e ns a p others None (taken ++ record { condition = length (closed mid).conditions; flows = (closed mid).flows } ∷ []) old (with_branch mid c)
@@ -371,7 +371,7 @@ test_refused law (why.Broken f) e ns a p q ws body others waiting taken old now 
     later k at within (inr (u, si, more)) = absurd (law f.rule (records_of e) ns a ws u si refused.1)
 
 pub statements_refused : DeedsBreakNoRule → (n : NotRead) (e : Entries) (ns : List Counted) (a : Against) (p q : Passage) (ws : List Lexeme) (body others : Passage) (waiting : Option code.Condition) (t : Condition) (taken : List TakenBranch) (old now : MadeLists)
-    → AllMayBeNamed e → q ≡ ABranch (Tested ws) body others → IsBranchTestOf (records_of e) ns a ws t → ReadsBranches e ns a p q waiting taken old now
+    → AllMayBeNamed e → q ≡ ABranch (Tested ws) body others → IsBranchTestOf (records_of e) (valued_in e) ns a ws t → ReadsBranches e ns a p q waiting taken old now
     → RefusedMade n (λ f. IsRefusedIn f e ns body) (λ many. FirstIn e ns body many) now → RefusedMade n (λ f. BranchesAreRefused f e ns a p) (λ many. FirstInBranches e ns a p many) old
 statements_refused law why.Memory e ns a p q ws body others waiting t taken old now named same is so refused = tt
 statements_refused law why.TooMany e ns a p q ws body others waiting t taken old now named same is so (m, first, most) =
@@ -659,7 +659,7 @@ left_begin e ns a k words m p is = (p, is, branches_begin e ns a p m)
 
 pub left_waits : (e : Entries) (ns : List Counted) (a : Against) (k : ChoiceKind) (words rest more ws body : List Lexeme) (waiting : Option code.Condition) (own c : code.Condition) (taken : List TakenBranch) (old now : MadeLists) (asked : List NamedEntry)
     → LeftOfBranches e ns a k words rest waiting taken old now → IsInFront k (Tested ws) body rest more → body ≡ [] → ((others : List NamedEntry) × (asked ≡ now.asked ++ others))
-    → IsBranchTestOf (records_of e) ns a ws (condition_of (sender_named (records_of e) asked) own)
+    → IsBranchTestOf (records_of e) (valued_in e) ns a ws (condition_of (sender_named (records_of e) asked) own)
     → ((waits : Option Condition) → IsWaiting (records_of e) now.asked waiting waits → condition_of (sender_named (records_of e) asked) c ≡ joined_test waits (condition_of (sender_named (records_of e) asked) own))
     → MayBeTested (IsAsked asked) (kind_named (records_of e) asked) c → LeftOfBranches e ns a k words more (Some c) taken old (with_asked now asked)
 left_waits e ns a k words rest more ws body waiting own c taken old now asked left front empty others is means tested p at =
@@ -674,7 +674,7 @@ left_waits e ns a k words rest more ws body waiting own c taken old now asked le
 
 pub left_taken : OneDeeds → (e : Entries) (ns : List Counted) (a : Against) (k : ChoiceKind) (words rest more ws body : List Lexeme) (waiting : Option code.Condition) (own c : code.Condition) (taken : List TakenBranch) (old now new : MadeLists) (asked : List NamedEntry) (after : List TakenBranch)
     → LeftOfBranches e ns a k words rest waiting taken old now → IsInFront k (Tested ws) body rest more → 0 < length body → ((others : List NamedEntry) × (asked ≡ now.asked ++ others))
-    → IsBranchTestOf (records_of e) ns a ws (condition_of (sender_named (records_of e) asked) own)
+    → IsBranchTestOf (records_of e) (valued_in e) ns a ws (condition_of (sender_named (records_of e) asked) own)
     → ((waits : Option Condition) → IsWaiting (records_of e) now.asked waiting waits → condition_of (sender_named (records_of e) asked) c ≡ joined_test waits (condition_of (sender_named (records_of e) asked) own))
     → MayBeTested (IsAsked asked) (kind_named (records_of e) asked) c → now.flows ≡ [] → open_statements now ≡ [] → AddsBranch e ns c body taken after (with_asked now asked) new
     → LeftOfBranches e ns a k words more None after old new
@@ -750,7 +750,7 @@ left_test_refused law n e ns a k words rest more ws body waiting taken old now l
     test_refused law n e ns a p q ws part.body part.others waiting taken old now part.same so refused
 
 pub left_statements_refused : DeedsBreakNoRule → (n : NotRead) (e : Entries) (ns : List Counted) (a : Against) (k : ChoiceKind) (words rest more ws body : List Lexeme) (waiting : Option code.Condition) (t : Condition) (taken : List TakenBranch) (old now : MadeLists) (asked : List NamedEntry)
-    → AllMayBeNamed e → LeftOfBranches e ns a k words rest waiting taken old now → IsInFront k (Tested ws) body rest more → IsBranchTestOf (records_of e) ns a ws t → TurnRefused n e ns body (with_asked now asked) → BranchesRefused n e ns a k words old
+    → AllMayBeNamed e → LeftOfBranches e ns a k words rest waiting taken old now → IsInFront k (Tested ws) body rest more → IsBranchTestOf (records_of e) (valued_in e) ns a ws t → TurnRefused n e ns body (with_asked now asked) → BranchesRefused n e ns a k words old
 left_statements_refused law n e ns a k words rest more ws body waiting t taken old now asked named left front is refused p at =
     let (q, are, so) = left p at in
     let part : Parted (standing.Branches k) (Branched (Tested ws) body) more q = parted (standing.Branches k) (Branched (Tested ws) body) rest more q are (in_front_some k (Tested ws) body rest more front) front.1 in

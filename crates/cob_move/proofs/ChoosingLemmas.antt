@@ -20,7 +20,7 @@ use Rattle.cob_move_statements.specs.declared.fault.MoveFault.{MoveFault}
 use Rattle.cob_move_statements.specs.declared.fault.MoveRule.{MoveRule}
 use Rattle.cob_move_statements.specs.declared.fault.MoveRule.TheVariants as rule
 use Rattle.cob_move_tests.specs.declared.entries.Entries.{Entries}
-use Rattle.cob_move_tests.specs.Entries.{records_of}
+use Rattle.cob_move_tests.specs.Entries.{records_of, valued_in}
 use Rattle.cob_move.specs.declared.made.NotRead.{NotRead}
 use Rattle.cob_move.specs.declared.made.NotRead.TheVariants as why
 use Rattle.cob_move.specs.DeedsRead.{SubjectNotRead, TestNotRead, choice_in_front}
@@ -89,10 +89,10 @@ subject_unread n f r e ns c told at memory broken given = elim (either_memory f.
 
 -- the words of a test
 pub test_unread : (n : NotRead) (f : MoveFault) (r : MoveRule) (e : Entries) (ns : List Counted) (a : Against) (ws : List Lexeme) → f.rule ≡ r → f.line ≡ first_line ws → ((f.rule ≡ rule.Memory) → n ≡ why.Memory) → (((f.rule ≡ rule.Memory) → ⊥) → n ≡ why.Broken f)
-    → (r ≡ rule.Memory) ⊎ BreaksBranchTest r (records_of e) ns a ws → TestNotRead n e ns a ws
+    → (r ≡ rule.Memory) ⊎ BreaksBranchTest r (records_of e) (valued_in e) ns a ws → TestNotRead n e ns a ws
 test_unread n f r e ns a ws told at memory broken given = elim (either_memory f.rule) [
   | inl is ↦ subst (λ (k : NotRead). TestNotRead k e ns a ws) (sym (memory is)) tt
   | inr other ↦
       subst (λ (k : NotRead). TestNotRead k e ns a ws) (sym (broken other))
-      (other, subst (λ (q : MoveRule). BreaksBranchTest q (records_of e) ns a ws) (sym told) (right (λ is. other (told ∙ is)) given), at)
+      (other, subst (λ (q : MoveRule). BreaksBranchTest q (records_of e) (valued_in e) ns a ws) (sym told) (right (λ is. other (told ∙ is)) given), at)
 ]

@@ -14,6 +14,8 @@ use Rattle.cob_move_choices.specs.Choices.{Against, joined_test}
 use Rattle.cob_move_choices.specs.Laws.{BranchTestsBreakNoRule, OneBranchTest, OneSubject, SubjectsBreakNoRule}
 use Rattle.cob_move_condition.specs.Conditions.{Condition}
 use Rattle.cob_move_deeds.specs.Deeds.{Choice, Deeds, Nothing, both_deeds}
+use Rattle.cob_copybook_names.specs.Naming.{Bearer}
+use Rattle.cob_move_names.specs.Valued.{ValuedEntry}
 use Rattle.cob_move.specs.Joined.{before_deeds, joined_deeds}
 use Rattle.cob_move_deeds.specs.Tests.{Holds, IsBoundItem, Past, Test, Until, with_number}
 use Rattle.cob_move_deeds.specs.Turns.{turns_from}
@@ -139,57 +141,57 @@ loop_one reference named all ns l (ToItem ws) meant one f g count other d e m n 
 abbrev pub TestsAreOne : Type 0
 TestsAreOne = OneSubject × OneBranchTest
 
-pub deeds_one_at : OneListOfEnded → OneMeant → OneReference → OneNamed → TestsAreOne → (all : List Candidate) (input output : Forest Resolved) (ns : List Counted) (at : Standing) (waiting : Option Condition) (p : Passage) (d e : Deeds Test) (m n : ℕ)
-    → AreDeedsAt all input output ns at waiting p d m → AreDeedsAt all input output ns at waiting p e n → (d ≡ e) × (m ≡ n)
-deeds_one_at ended meant reference named tests all input output ns at waiting NoMore d e m n p q = (p.0 ∙ sym q.0, p.1 ∙ sym q.1)
-deeds_one_at ended meant reference named tests all input output ns InStatements waiting (Moves own more) d e m n (ms, next, count, rest, run, are, d_is, m_is) (sm, txen, tnuoc, tser, nur, era, e_is, n_is) =
+pub deeds_one_at : (values : List (Bearer ValuedEntry)) → OneListOfEnded → OneMeant → OneReference → OneNamed → TestsAreOne → (all : List Candidate) (input output : Forest Resolved) (ns : List Counted) (at : Standing) (waiting : Option Condition) (p : Passage) (d e : Deeds Test) (m n : ℕ)
+    → AreDeedsAt values all input output ns at waiting p d m → AreDeedsAt values all input output ns at waiting p e n → (d ≡ e) × (m ≡ n)
+deeds_one_at values ended meant reference named tests all input output ns at waiting NoMore d e m n p q = (p.0 ∙ sym q.0, p.1 ∙ sym q.1)
+deeds_one_at values ended meant reference named tests all input output ns InStatements waiting (Moves own more) d e m n (ms, next, count, rest, run, are, d_is, m_is) (sm, txen, tnuoc, tser, nur, era, e_is, n_is) =
     let first = run_one ended meant input output (in_turn ns false 0 own) ms sm count tnuoc run nur in
-    let behind = deeds_one_at ended meant reference named tests all input output ns InStatements None more next txen rest tser are era in (
+    let behind = deeds_one_at values ended meant reference named tests all input output ns InStatements None more next txen rest tser are era in (
       d_is ∙ ap (λ (t : List Move). before_deeds t next) first.0 ∙ ap (λ (k : Deeds Test). before_deeds sm k) behind.0 ∙ sym e_is,
       m_is ∙ ap (λ (k : ℕ). k + rest) first.1 ∙ ap (λ (k : ℕ). tnuoc + k) behind.1 ∙ sym n_is,
     )
-deeds_one_at ended meant reference named tests all input output ns InStatements waiting (Pause more) d e m n p q =
-    deeds_one_at ended meant reference named tests all input output ns InStatements None more d e m n p q
-deeds_one_at ended meant reference named tests all input output ns InStatements waiting (ALoop l body more) d e m n (f, count, own, next, turned, rest, loop, are, d_is, m_is) (g, other, nwo, txen, denrut, tser, pool, era, e_is, n_is) =
-    let turns = loop_one reference named all ns l l.bound (λ i k c. AreDeeds all input output (ns ++ counter_at l i ∷ []) body k c)
-    (λ i a b x y p q. deeds_one_at ended meant reference named tests all input output (ns ++ counter_at l i ∷ []) InStatements None body a b x y p q) f g count other own nwo turned denrut loop pool in
-    let behind = deeds_one_at ended meant reference named tests all input output ns InStatements None more next txen rest tser are era in (
+deeds_one_at values ended meant reference named tests all input output ns InStatements waiting (Pause more) d e m n p q =
+    deeds_one_at values ended meant reference named tests all input output ns InStatements None more d e m n p q
+deeds_one_at values ended meant reference named tests all input output ns InStatements waiting (ALoop l body more) d e m n (f, count, own, next, turned, rest, loop, are, d_is, m_is) (g, other, nwo, txen, denrut, tser, pool, era, e_is, n_is) =
+    let turns = loop_one reference named all ns l l.bound (λ i k c. AreDeeds values all input output (ns ++ counter_at l i ∷ []) body k c)
+    (λ i a b x y p q. deeds_one_at values ended meant reference named tests all input output (ns ++ counter_at l i ∷ []) InStatements None body a b x y p q) f g count other own nwo turned denrut loop pool in
+    let behind = deeds_one_at values ended meant reference named tests all input output ns InStatements None more next txen rest tser are era in (
       d_is ∙ ap (λ (k : Deeds Test). joined_deeds k next) turns.0 ∙ ap (λ (k : Deeds Test). joined_deeds nwo k) behind.0 ∙ sym e_is,
       m_is ∙ ap (λ (k : ℕ). k + rest) turns.1 ∙ ap (λ (k : ℕ). denrut + k) behind.1 ∙ sym n_is,
     )
-deeds_one_at ended meant reference named tests all input output ns InStatements waiting (AChoice c branches more) d e m n (a, own, next, inside, rest, is, within, are, d_is, m_is) (b, nwo, txen, edisni, tser, si, nihtiw, era, e_is, n_is) =
+deeds_one_at values ended meant reference named tests all input output ns InStatements waiting (AChoice c branches more) d e m n (a, own, next, inside, rest, is, within, are, d_is, m_is) (b, nwo, txen, edisni, tser, si, nihtiw, era, e_is, n_is) =
     let held : b ≡ a = tests.0 (record { input = input; output = output }) ns c b a si is in
-    let first = deeds_one_at ended meant reference named tests all input output ns (InBranches a) None branches own nwo inside edisni within
-    (subst (λ (x : Against). AreDeedsAt all input output ns (InBranches x) None branches nwo edisni) held nihtiw) in
-    let behind = deeds_one_at ended meant reference named tests all input output ns InStatements None more next txen rest tser are era in (
+    let first = deeds_one_at values ended meant reference named tests all input output ns (InBranches a) None branches own nwo inside edisni within
+    (subst (λ (x : Against). AreDeedsAt values all input output ns (InBranches x) None branches nwo edisni) held nihtiw) in
+    let behind = deeds_one_at values ended meant reference named tests all input output ns InStatements None more next txen rest tser are era in (
       d_is ∙ ap (λ (k : Deeds Test). joined_deeds k next) first.0 ∙ ap (λ (k : Deeds Test). joined_deeds nwo k) behind.0 ∙ sym e_is,
       omega (arith, m_is, n_is, first.1, behind.1),
     )
-deeds_one_at ended meant reference named tests all input output ns InStatements waiting (ABranch t own others) d e m n p q = absurd p
-deeds_one_at ended meant reference named tests all input output ns (InBranches a) waiting (Moves own more) d e m n p q = absurd p
-deeds_one_at ended meant reference named tests all input output ns (InBranches a) waiting (Pause more) d e m n p q = absurd p
-deeds_one_at ended meant reference named tests all input output ns (InBranches a) waiting (ALoop l body more) d e m n p q = absurd p
-deeds_one_at ended meant reference named tests all input output ns (InBranches a) waiting (AChoice c branches more) d e m n p q = absurd p
-deeds_one_at ended meant reference named tests all input output ns (InBranches a) waiting (ABranch Otherwise own others) d e m n p q =
-    deeds_one_at ended meant reference named tests all input output ns InStatements None own d e m n p q
-deeds_one_at ended meant reference named tests all input output ns (InBranches a) waiting (ABranch (Tested ws) own others) d e m n (t, is, inl (none, are)) (u, si, inl (enon, era)) =
-    let same : u ≡ t = tests.1 (record { input = input; output = output }) ns a ws u t si is in
-    deeds_one_at ended meant reference named tests all input output ns (InBranches a) (Some (joined_test waiting t)) others d e m n are
-    (subst (λ (x : Condition). AreDeedsAt all input output ns (InBranches a) (Some (joined_test waiting x)) others e n) same era)
-deeds_one_at ended meant reference named tests all input output ns (InBranches a) waiting (ABranch (Tested ws) own others) d e m n (t, is, inl (none, are)) (u, si, inr (some, w, z, tnuoc, tser, era, dniheb, e_is, n_is)) = absurd (some none)
-deeds_one_at ended meant reference named tests all input output ns (InBranches a) waiting (ABranch (Tested ws) own others) d e m n (t, is, inr (some, x, y, count, rest, first, behind, d_is, m_is)) (u, si, inl (none, are)) = absurd (some none)
-deeds_one_at ended meant reference named tests all input output ns (InBranches a) waiting (ABranch (Tested ws) own others) d e m n (t, is, inr (some, x, y, count, rest, are, behind, d_is, m_is)) (u, si, inr (emos, w, z, tnuoc, tser, era, dniheb, e_is, n_is)) =
-    let same : t ≡ u = tests.1 (record { input = input; output = output }) ns a ws t u is si in
-    let first = deeds_one_at ended meant reference named tests all input output ns InStatements None own x w count tnuoc are era in
-    let left = deeds_one_at ended meant reference named tests all input output ns (InBranches a) None others y z rest tser behind dniheb in (
+deeds_one_at values ended meant reference named tests all input output ns InStatements waiting (ABranch t own others) d e m n p q = absurd p
+deeds_one_at values ended meant reference named tests all input output ns (InBranches a) waiting (Moves own more) d e m n p q = absurd p
+deeds_one_at values ended meant reference named tests all input output ns (InBranches a) waiting (Pause more) d e m n p q = absurd p
+deeds_one_at values ended meant reference named tests all input output ns (InBranches a) waiting (ALoop l body more) d e m n p q = absurd p
+deeds_one_at values ended meant reference named tests all input output ns (InBranches a) waiting (AChoice c branches more) d e m n p q = absurd p
+deeds_one_at values ended meant reference named tests all input output ns (InBranches a) waiting (ABranch Otherwise own others) d e m n p q =
+    deeds_one_at values ended meant reference named tests all input output ns InStatements None own d e m n p q
+deeds_one_at values ended meant reference named tests all input output ns (InBranches a) waiting (ABranch (Tested ws) own others) d e m n (t, is, inl (none, are)) (u, si, inl (enon, era)) =
+    let same : u ≡ t = tests.1 (record { input = input; output = output }) values ns a ws u t si is in
+    deeds_one_at values ended meant reference named tests all input output ns (InBranches a) (Some (joined_test waiting t)) others d e m n are
+    (subst (λ (x : Condition). AreDeedsAt values all input output ns (InBranches a) (Some (joined_test waiting x)) others e n) same era)
+deeds_one_at values ended meant reference named tests all input output ns (InBranches a) waiting (ABranch (Tested ws) own others) d e m n (t, is, inl (none, are)) (u, si, inr (some, w, z, tnuoc, tser, era, dniheb, e_is, n_is)) = absurd (some none)
+deeds_one_at values ended meant reference named tests all input output ns (InBranches a) waiting (ABranch (Tested ws) own others) d e m n (t, is, inr (some, x, y, count, rest, first, behind, d_is, m_is)) (u, si, inl (none, are)) = absurd (some none)
+deeds_one_at values ended meant reference named tests all input output ns (InBranches a) waiting (ABranch (Tested ws) own others) d e m n (t, is, inr (some, x, y, count, rest, are, behind, d_is, m_is)) (u, si, inr (emos, w, z, tnuoc, tser, era, dniheb, e_is, n_is)) =
+    let same : t ≡ u = tests.1 (record { input = input; output = output }) values ns a ws t u is si in
+    let first = deeds_one_at values ended meant reference named tests all input output ns InStatements None own x w count tnuoc are era in
+    let left = deeds_one_at values ended meant reference named tests all input output ns (InBranches a) None others y z rest tser behind dniheb in (
       d_is ∙ ap (λ (k : Condition). Choice (Holds (joined_test waiting k)) x y Nothing) same ∙ ap (λ (k : Deeds Test). Choice (Holds (joined_test waiting u)) k y Nothing) first.0
           ∙ ap (λ (k : Deeds Test). Choice (Holds (joined_test waiting u)) w k Nothing) left.0 ∙ sym e_is,
       omega (arith, m_is, n_is, first.1, left.1),
     )
 
-pub deeds_one : OneListOfEnded → OneMeant → OneReference → OneNamed → TestsAreOne → (all : List Candidate) (input output : Forest Resolved) (ns : List Counted) (p : Passage) (d e : Deeds Test) (m n : ℕ)
-    → AreDeeds all input output ns p d m → AreDeeds all input output ns p e n → (d ≡ e) × (m ≡ n)
-deeds_one ended meant reference named tests all input output ns p d e m n is si = deeds_one_at ended meant reference named tests all input output ns InStatements None p d e m n is si
+pub deeds_one : OneListOfEnded → OneMeant → OneReference → OneNamed → TestsAreOne → (values : List (Bearer ValuedEntry)) (all : List Candidate) (input output : Forest Resolved) (ns : List Counted) (p : Passage) (d e : Deeds Test) (m n : ℕ)
+    → AreDeeds values all input output ns p d m → AreDeeds values all input output ns p e n → (d ≡ e) × (m ≡ n)
+deeds_one ended meant reference named tests values all input output ns p d e m n is si = deeds_one_at values ended meant reference named tests all input output ns InStatements None p d e m n is si
 
 -- ---- what comes to something is refused for want of memory alone
 
@@ -239,46 +241,46 @@ loop_refused reference named none f all ns l (ToItem ws) meant refused never g c
 abbrev pub TestsAreUnbroken : Type 0
 TestsAreUnbroken = SubjectsBreakNoRule × BranchTestsBreakNoRule × OneSubject
 
-deeds_unrefused_at : OneListOfEnded → MeantBreakNoRule → OneReference → OneNamed → NamedBreakNoRule → TestsAreUnbroken → (f : MoveFault) (input output : Forest Resolved) (ns : List Counted) (at : Standing) (waiting : Option Condition) (p : Passage) (d : Deeds Test) (m : ℕ)
-    → AreDeedsAt (all_entries input output) input output ns at waiting p d m → IsTurnRefusedAt f (all_entries input output) input output ns at p → f.rule ≡ rule.Memory
-deeds_unrefused_at ended unbroken reference named none tests f input output ns at waiting NoMore d m are refused = absurd refused
-deeds_unrefused_at ended unbroken reference named none tests f input output ns InStatements waiting (Moves own more) d m (ms, next, count, rest, run, are, d_is, m_is) (inl broken) =
+deeds_unrefused_at : (values : List (Bearer ValuedEntry)) → OneListOfEnded → MeantBreakNoRule → OneReference → OneNamed → NamedBreakNoRule → TestsAreUnbroken → (f : MoveFault) (input output : Forest Resolved) (ns : List Counted) (at : Standing) (waiting : Option Condition) (p : Passage) (d : Deeds Test) (m : ℕ)
+    → AreDeedsAt values (all_entries input output) input output ns at waiting p d m → IsTurnRefusedAt values f (all_entries input output) input output ns at p → f.rule ≡ rule.Memory
+deeds_unrefused_at values ended unbroken reference named none tests f input output ns at waiting NoMore d m are refused = absurd refused
+deeds_unrefused_at values ended unbroken reference named none tests f input output ns InStatements waiting (Moves own more) d m (ms, next, count, rest, run, are, d_is, m_is) (inl broken) =
     run_refused ended unbroken f input output (in_turn ns false 0 own) ms count run broken
-deeds_unrefused_at ended unbroken reference named none tests f input output ns InStatements waiting (Moves own more) d m (ms, next, count, rest, run, are, d_is, m_is) (inr behind) =
-    deeds_unrefused_at ended unbroken reference named none tests f input output ns InStatements None more next rest are behind
-deeds_unrefused_at ended unbroken reference named none tests f input output ns InStatements waiting (Pause more) d m are refused =
-    deeds_unrefused_at ended unbroken reference named none tests f input output ns InStatements None more d m are refused
-deeds_unrefused_at ended unbroken reference named none tests f input output ns InStatements waiting (ALoop l body more) d m (g, count, own, next, turned, rest, loop, are, d_is, m_is) (inl broken) =
-    loop_refused reference named none f (all_entries input output) ns l l.bound (λ i k c. AreDeeds (all_entries input output) input output (ns ++ counter_at l i ∷ []) body k c)
-    (λ i. IsTurnRefused f (all_entries input output) input output (ns ++ counter_at l i ∷ []) body)
-    (λ i k c is at. deeds_unrefused_at ended unbroken reference named none tests f input output (ns ++ counter_at l i ∷ []) InStatements None body k c is at) g count own turned loop broken
-deeds_unrefused_at ended unbroken reference named none tests f input output ns InStatements waiting (ALoop l body more) d m (g, count, own, next, turned, rest, loop, are, d_is, m_is) (inr behind) =
-    deeds_unrefused_at ended unbroken reference named none tests f input output ns InStatements None more next rest are behind
-deeds_unrefused_at ended unbroken reference named none tests f input output ns InStatements waiting (AChoice c branches more) d m (a, own, next, inside, rest, is, within, are, d_is, m_is) (inl (inl broken)) =
+deeds_unrefused_at values ended unbroken reference named none tests f input output ns InStatements waiting (Moves own more) d m (ms, next, count, rest, run, are, d_is, m_is) (inr behind) =
+    deeds_unrefused_at values ended unbroken reference named none tests f input output ns InStatements None more next rest are behind
+deeds_unrefused_at values ended unbroken reference named none tests f input output ns InStatements waiting (Pause more) d m are refused =
+    deeds_unrefused_at values ended unbroken reference named none tests f input output ns InStatements None more d m are refused
+deeds_unrefused_at values ended unbroken reference named none tests f input output ns InStatements waiting (ALoop l body more) d m (g, count, own, next, turned, rest, loop, are, d_is, m_is) (inl broken) =
+    loop_refused reference named none f (all_entries input output) ns l l.bound (λ i k c. AreDeeds values (all_entries input output) input output (ns ++ counter_at l i ∷ []) body k c)
+    (λ i. IsTurnRefused values f (all_entries input output) input output (ns ++ counter_at l i ∷ []) body)
+    (λ i k c is at. deeds_unrefused_at values ended unbroken reference named none tests f input output (ns ++ counter_at l i ∷ []) InStatements None body k c is at) g count own turned loop broken
+deeds_unrefused_at values ended unbroken reference named none tests f input output ns InStatements waiting (ALoop l body more) d m (g, count, own, next, turned, rest, loop, are, d_is, m_is) (inr behind) =
+    deeds_unrefused_at values ended unbroken reference named none tests f input output ns InStatements None more next rest are behind
+deeds_unrefused_at values ended unbroken reference named none tests f input output ns InStatements waiting (AChoice c branches more) d m (a, own, next, inside, rest, is, within, are, d_is, m_is) (inl (inl broken)) =
     absurd (tests.0 f.rule (record { input = input; output = output }) ns c a is broken.0)
-deeds_unrefused_at ended unbroken reference named none tests f input output ns InStatements waiting (AChoice c branches more) d m (a, own, next, inside, rest, is, within, are, d_is, m_is) (inl (inr (b, si, broken))) =
-    deeds_unrefused_at ended unbroken reference named none tests f input output ns (InBranches a) None branches own inside within
-    (subst (λ (x : Against). IsTurnRefusedAt f (all_entries input output) input output ns (InBranches x) branches) (tests.2 (record { input = input; output = output }) ns c b a si is) broken)
-deeds_unrefused_at ended unbroken reference named none tests f input output ns InStatements waiting (AChoice c branches more) d m (a, own, next, inside, rest, is, within, are, d_is, m_is) (inr behind) =
-    deeds_unrefused_at ended unbroken reference named none tests f input output ns InStatements None more next rest are behind
-deeds_unrefused_at ended unbroken reference named none tests f input output ns InStatements waiting (ABranch t own others) d m are refused = absurd are
-deeds_unrefused_at ended unbroken reference named none tests f input output ns (InBranches a) waiting (Moves own more) d m are refused = absurd are
-deeds_unrefused_at ended unbroken reference named none tests f input output ns (InBranches a) waiting (Pause more) d m are refused = absurd are
-deeds_unrefused_at ended unbroken reference named none tests f input output ns (InBranches a) waiting (ALoop l body more) d m are refused = absurd are
-deeds_unrefused_at ended unbroken reference named none tests f input output ns (InBranches a) waiting (AChoice c branches more) d m are refused = absurd are
-deeds_unrefused_at ended unbroken reference named none tests f input output ns (InBranches a) waiting (ABranch Otherwise own others) d m are refused =
-    deeds_unrefused_at ended unbroken reference named none tests f input output ns InStatements None own d m are refused
-deeds_unrefused_at ended unbroken reference named none tests f input output ns (InBranches a) waiting (ABranch (Tested ws) own others) d m (t, is, more) (inl broken) =
-    absurd (tests.1 f.rule (record { input = input; output = output }) ns a ws t is broken.0)
-deeds_unrefused_at ended unbroken reference named none tests f input output ns (InBranches a) waiting (ABranch (Tested ws) own others) d m (t, is, inl (empty, are)) (inr (inl broken)) =
-    absurd (subst (λ (q : Passage). IsTurnRefused f (all_entries input output) input output ns q) empty broken)
-deeds_unrefused_at ended unbroken reference named none tests f input output ns (InBranches a) waiting (ABranch (Tested ws) own others) d m (t, is, inl (empty, are)) (inr (inr behind)) =
-    deeds_unrefused_at ended unbroken reference named none tests f input output ns (InBranches a) (Some (joined_test waiting t)) others d m are behind
-deeds_unrefused_at ended unbroken reference named none tests f input output ns (InBranches a) waiting (ABranch (Tested ws) own others) d m (t, is, inr (some, x, y, count, rest, are, left, d_is, m_is)) (inr (inl broken)) =
-    deeds_unrefused_at ended unbroken reference named none tests f input output ns InStatements None own x count are broken
-deeds_unrefused_at ended unbroken reference named none tests f input output ns (InBranches a) waiting (ABranch (Tested ws) own others) d m (t, is, inr (some, x, y, count, rest, are, left, d_is, m_is)) (inr (inr behind)) =
-    deeds_unrefused_at ended unbroken reference named none tests f input output ns (InBranches a) None others y rest left behind
+deeds_unrefused_at values ended unbroken reference named none tests f input output ns InStatements waiting (AChoice c branches more) d m (a, own, next, inside, rest, is, within, are, d_is, m_is) (inl (inr (b, si, broken))) =
+    deeds_unrefused_at values ended unbroken reference named none tests f input output ns (InBranches a) None branches own inside within
+    (subst (λ (x : Against). IsTurnRefusedAt values f (all_entries input output) input output ns (InBranches x) branches) (tests.2 (record { input = input; output = output }) ns c b a si is) broken)
+deeds_unrefused_at values ended unbroken reference named none tests f input output ns InStatements waiting (AChoice c branches more) d m (a, own, next, inside, rest, is, within, are, d_is, m_is) (inr behind) =
+    deeds_unrefused_at values ended unbroken reference named none tests f input output ns InStatements None more next rest are behind
+deeds_unrefused_at values ended unbroken reference named none tests f input output ns InStatements waiting (ABranch t own others) d m are refused = absurd are
+deeds_unrefused_at values ended unbroken reference named none tests f input output ns (InBranches a) waiting (Moves own more) d m are refused = absurd are
+deeds_unrefused_at values ended unbroken reference named none tests f input output ns (InBranches a) waiting (Pause more) d m are refused = absurd are
+deeds_unrefused_at values ended unbroken reference named none tests f input output ns (InBranches a) waiting (ALoop l body more) d m are refused = absurd are
+deeds_unrefused_at values ended unbroken reference named none tests f input output ns (InBranches a) waiting (AChoice c branches more) d m are refused = absurd are
+deeds_unrefused_at values ended unbroken reference named none tests f input output ns (InBranches a) waiting (ABranch Otherwise own others) d m are refused =
+    deeds_unrefused_at values ended unbroken reference named none tests f input output ns InStatements None own d m are refused
+deeds_unrefused_at values ended unbroken reference named none tests f input output ns (InBranches a) waiting (ABranch (Tested ws) own others) d m (t, is, more) (inl broken) =
+    absurd (tests.1 f.rule (record { input = input; output = output }) values ns a ws t is broken.0)
+deeds_unrefused_at values ended unbroken reference named none tests f input output ns (InBranches a) waiting (ABranch (Tested ws) own others) d m (t, is, inl (empty, are)) (inr (inl broken)) =
+    absurd (subst (λ (q : Passage). IsTurnRefused values f (all_entries input output) input output ns q) empty broken)
+deeds_unrefused_at values ended unbroken reference named none tests f input output ns (InBranches a) waiting (ABranch (Tested ws) own others) d m (t, is, inl (empty, are)) (inr (inr behind)) =
+    deeds_unrefused_at values ended unbroken reference named none tests f input output ns (InBranches a) (Some (joined_test waiting t)) others d m are behind
+deeds_unrefused_at values ended unbroken reference named none tests f input output ns (InBranches a) waiting (ABranch (Tested ws) own others) d m (t, is, inr (some, x, y, count, rest, are, left, d_is, m_is)) (inr (inl broken)) =
+    deeds_unrefused_at values ended unbroken reference named none tests f input output ns InStatements None own x count are broken
+deeds_unrefused_at values ended unbroken reference named none tests f input output ns (InBranches a) waiting (ABranch (Tested ws) own others) d m (t, is, inr (some, x, y, count, rest, are, left, d_is, m_is)) (inr (inr behind)) =
+    deeds_unrefused_at values ended unbroken reference named none tests f input output ns (InBranches a) None others y rest left behind
 
-pub deeds_unrefused : OneListOfEnded → MeantBreakNoRule → OneReference → OneNamed → NamedBreakNoRule → TestsAreUnbroken → (f : MoveFault) (input output : Forest Resolved) (ns : List Counted) (p : Passage) (d : Deeds Test) (m : ℕ)
-    → AreDeeds (all_entries input output) input output ns p d m → IsTurnRefused f (all_entries input output) input output ns p → f.rule ≡ rule.Memory
-deeds_unrefused ended unbroken reference named none tests f input output ns p d m are refused = deeds_unrefused_at ended unbroken reference named none tests f input output ns InStatements None p d m are refused
+pub deeds_unrefused : OneListOfEnded → MeantBreakNoRule → OneReference → OneNamed → NamedBreakNoRule → TestsAreUnbroken → (values : List (Bearer ValuedEntry)) (f : MoveFault) (input output : Forest Resolved) (ns : List Counted) (p : Passage) (d : Deeds Test) (m : ℕ)
+    → AreDeeds values (all_entries input output) input output ns p d m → IsTurnRefused values f (all_entries input output) input output ns p → f.rule ≡ rule.Memory
+deeds_unrefused ended unbroken reference named none tests values f input output ns p d m are refused = deeds_unrefused_at values ended unbroken reference named none tests f input output ns InStatements None p d m are refused

@@ -19,7 +19,7 @@ use Rattle.cob_move_statements.specs.Laws.{OneListOfEnded, OneReference}
 use Rattle.cob_move_statements.specs.Statements.{IsEndedStatement, Several}
 use Rattle.cob_move_statements.specs.Written.{WrittenStatement}
 use Rattle.cob_move_tests.specs.declared.entries.Entries.{Entries}
-use Rattle.cob_move_tests.specs.Entries.{AllMayBeNamed, nameable, records_of}
+use Rattle.cob_move_tests.specs.Entries.{AllMayBeNamed, nameable, records_of, valued_in}
 use Rattle.cob_move.specs.Bodies.{RunIsRefused}
 use Rattle.cob_move.specs.Deeds.{AreDeeds, ComeFirstInLoop, IsBoundRefusal, IsTurnRefused, count_of_turns}
 use Rattle.cob_move.specs.DeedsLaws.{DeedsBreakNoRule, OneDeeds}
@@ -52,7 +52,7 @@ refused_joined g e ns (Branched t ws) body others refused = absurd refused
 -- ---- what comes to something does so once
 
 pub count_one : OneDeeds → (e : Entries) (ns : List Counted) (p : Passage) (d k : Deeds Test) (m n : ℕ) → PassageComesTo e ns p d m → PassageComesTo e ns p k n → m ≡ n
-count_one law e ns p d k m n x y = (law (nameable e) e.input.now e.output.now ns p d k m n x y).1
+count_one law e ns p d k m n x y = (law (valued_in e) (nameable e) e.input.now e.output.now ns p d k m n x y).1
 
 front_count : OneDeeds → (e : Entries) (ns : List Counted) (f : PassageFront) (body : Passage) (d k : Deeds Test) (m n : ℕ) → FrontComesTo e ns f body d m → FrontComesTo e ns f body k n → m ≡ n
 front_count law e ns f body d k m n x y =
@@ -64,14 +64,14 @@ front_count law e ns f body d k m n x y =
 front_unbroken : DeedsBreakNoRule → (g : MoveFault) (e : Entries) (ns : List Counted) (f : PassageFront) (body : Passage) (d : Deeds Test) (m : ℕ) → AllMayBeNamed e → FrontComesTo e ns f body d m → FrontIsRefused g e ns f body
     → g.rule ≡ rule.Memory
 front_unbroken law g e ns f body d m named comes refused =
-    law g e.input.now e.output.now ns (joined f body NoMore) (joined_deeds d Nothing) (m + 0)
-    (subst (λ (all : List Candidate). AreDeeds all e.input.now e.output.now ns (joined f body NoMore) (joined_deeds d Nothing) (m + 0)) named (comes_joined e ns f body NoMore d Nothing m 0 comes (refl, refl)))
-    (subst (λ (all : List Candidate). IsTurnRefused g all e.input.now e.output.now ns (joined f body NoMore)) named (refused_joined g e ns f body NoMore refused))
+    law (valued_in e) g e.input.now e.output.now ns (joined f body NoMore) (joined_deeds d Nothing) (m + 0)
+    (subst (λ (all : List Candidate). AreDeeds (valued_in e) all e.input.now e.output.now ns (joined f body NoMore) (joined_deeds d Nothing) (m + 0)) named (comes_joined e ns f body NoMore d Nothing m 0 comes (refl, refl)))
+    (subst (λ (all : List Candidate). IsTurnRefused (valued_in e) g all e.input.now e.output.now ns (joined f body NoMore)) named (refused_joined g e ns f body NoMore refused))
 
 pub turn_unbroken : DeedsBreakNoRule → (g : MoveFault) (e : Entries) (ns : List Counted) (p : Passage) (d : Deeds Test) (m : ℕ) → AllMayBeNamed e → PassageComesTo e ns p d m → IsRefusedIn g e ns p → g.rule ≡ rule.Memory
 turn_unbroken law g e ns p d m named comes refused =
-    law g e.input.now e.output.now ns p d m (subst (λ (all : List Candidate). AreDeeds all e.input.now e.output.now ns p d m) named comes)
-    (subst (λ (all : List Candidate). IsTurnRefused g all e.input.now e.output.now ns p) named refused)
+    law (valued_in e) g e.input.now e.output.now ns p d m (subst (λ (all : List Candidate). AreDeeds (valued_in e) all e.input.now e.output.now ns p d m) named comes)
+    (subst (λ (all : List Candidate). IsTurnRefused (valued_in e) g all e.input.now e.output.now ns p) named refused)
 
 -- ---- words of MOVE statements
 

@@ -16,6 +16,8 @@ use Rattle.cob_move_names.specs.Candidates.{Candidate, all_entries}
 use Rattle.cob_move_statements.specs.declared.fault.MoveFault.{MoveFault}
 use Rattle.cob_move_statements.specs.Statements.{IsEndedStatement, Several}
 use Rattle.cob_move_statements.specs.Written.{WrittenStatement}
+use Rattle.cob_copybook_names.specs.Naming.{Bearer}
+use Rattle.cob_move_names.specs.Valued.{ValuedEntry}
 use Rattle.cob_move.specs.Bodies.{AreSpelled, RunIsRefused}
 use Rattle.cob_move.specs.Deeds.{AreDeeds, IsLoopOf, IsLoopRefused, IsTurnRefused, count_of_turns, deeds_of_turns}
 use Rattle.cob_move.specs.DeedsRead.{AreTurnsMeant}
@@ -190,38 +192,38 @@ loop_comes all ns l (ToNumber n) meant d m some ends are =
     (k.comes, k.count, (k.each, k.deeds, k.many))
 
 -- what the runs of a passage mean once it is written out is what it comes to
-pub literal_comes : (input output : Forest Resolved) (ns : List Counted) (p : Passage) (ws : List Lexeme) → IsPassage p ws → IsLiteral p → (ms : List Move) (m : ℕ) → RunsMean input output (words_by_turn ns p) ms m
-    → Comes (λ d c. AreDeeds (all_entries input output) input output ns p d c) ms m
-literal_comes input output ns NoMore ws says all ms m h =
+pub literal_comes : (values : List (Bearer ValuedEntry)) (input output : Forest Resolved) (ns : List Counted) (p : Passage) (ws : List Lexeme) → IsPassage p ws → IsLiteral p → (ms : List Move) (m : ℕ) → RunsMean input output (words_by_turn ns p) ms m
+    → Comes (λ d c. AreDeeds values (all_entries input output) input output ns p d c) ms m
+literal_comes values input output ns NoMore ws says all ms m h =
     let (none, ms_is) = none_mean input output ms m h in
     (Nothing, (refl, none), inl (none, refl, ms_is))
-literal_comes input output ns (Moves own more) ws (rest, run, first, e, is) all ms m h =
+literal_comes values input output ns (Moves own more) ws (rest, run, first, e, is) all ms m h =
     let words = in_turn ns false 0 own in
     let k = runs_parts input output (words ∷ []) (words_by_turn ns more) ms m h in
     let (ss, spelled, meant, many) = run_alone input output words k.first k.count k.mean in
-    let (next, are, done) = literal_comes input output ns more rest is all k.behind k.rest k.mean_behind in
+    let (next, are, done) = literal_comes values input output ns more rest is all k.behind k.rest k.mean_behind in
     let some : 0 < length ss = some_statements ss words (some_in_turn ns own run) spelled in (
       before_deeds k.first next,
       (k.first, next, k.count, k.rest, record { statements = ss; spelled = spelled; meant = meant; many = many }, are, refl, k.many),
       done_as (k.count + k.rest) m (k.first ++ k.behind) ms (before_deeds k.first next) (before_deeds k.first next) (sym k.many) (sym k.moves) refl
           (done_both k.count k.rest k.first k.behind (Moving k.first Nothing) next (inr (omega (arith, many, some), refl)) done),
     )
-literal_comes input output ns (Pause more) ws (pause, stops, rest, word, are, e, is) all ms m h = literal_comes input output ns more rest is all ms m h
-literal_comes input output ns (ALoop l body more) ws (head, own, stops, rest, end, h, b, inner, word, are, e, is) all ms m g =
+literal_comes values input output ns (Pause more) ws (pause, stops, rest, word, are, e, is) all ms m h = literal_comes values input output ns more rest is all ms m h
+literal_comes values input output ns (ALoop l body more) ws (head, own, stops, rest, end, h, b, inner, word, are, e, is) all ms m g =
     let out : ℕ → List (List Lexeme) = λ i. words_by_turn (ns ++ counter_at l i ∷ []) body in
-    let meant : ℕ → Deeds Test → ℕ → Type 0 = λ i d c. AreDeeds (all_entries input output) input output (ns ++ counter_at l i ∷ []) body d c in
+    let meant : ℕ → Deeds Test → ℕ → Type 0 = λ i d c. AreDeeds values (all_entries input output) input output (ns ++ counter_at l i ∷ []) body d c in
     let k = runs_parts input output (turns out l.by (turns_of l) l.from) (words_by_turn ns more) ms m g in
     let (d, turned, done) = turns_come meant out input output
-    (λ i t c r. literal_comes input output (ns ++ counter_at l i ∷ []) body own inner (literal_within l body more all) t c r) l.by (turns_of l) l.from k.first k.count k.mean in
+    (λ i t c r. literal_comes values input output (ns ++ counter_at l i ∷ []) body own inner (literal_within l body more all) t c r) l.by (turns_of l) l.from k.first k.count k.mean in
     let (f, count, loop) = loop_comes (all_entries input output) ns l l.bound meant d k.count (head_adds l head h) all.0 turned in
-    let (next, others, all_done) = literal_comes input output ns more rest is (literal_behind l body more all) k.behind k.rest k.mean_behind in (
+    let (next, others, all_done) = literal_comes values input output ns more rest is (literal_behind l body more all) k.behind k.rest k.mean_behind in (
       joined_deeds d next,
       (f, count, d, next, k.count, k.rest, loop, others, refl, k.many),
       done_as (k.count + k.rest) m (k.first ++ k.behind) ms (joined_deeds d next) (joined_deeds d next) (sym k.many) (sym k.moves) refl
           (done_both k.count k.rest k.first k.behind d next done all_done),
     )
-literal_comes input output ns (AChoice c branches more) ws says all ms m h = absurd all
-literal_comes input output ns (ABranch t own others) ws says all ms m h = absurd all
+literal_comes values input output ns (AChoice c branches more) ws says all ms m h = absurd all
+literal_comes values input output ns (ABranch t own others) ws says all ms m h = absurd all
 
 -- ---- and back
 
@@ -261,27 +263,27 @@ loop_means all ns l (ToNumber n) meant g input output ends each f count d m (are
     (count_of_turns count l.by (turns_between l.from l.by n) l.from) m (sym d_is) (sym m_is) whole
 
 -- what a passage comes to is what its runs mean once it is written out
-pub comes_literal : (input output : Forest Resolved) (ns : List Counted) (p : Passage) (ws : List Lexeme) → IsPassage p ws → IsLiteral p → (d : Deeds Test) (m : ℕ)
-    → AreDeeds (all_entries input output) input output ns p d m → Means input output (words_by_turn ns p) d m
-comes_literal input output ns NoMore ws says all d m (d_is, none) = means_as input output [] Nothing d 0 m (sym d_is) (sym none) ([], runs_none input output, none_done)
-comes_literal input output ns (Moves own more) ws (rest, run, first, e, is) all d m (ms, next, count, others, meant, are, d_is, m_is) =
+pub comes_literal : (values : List (Bearer ValuedEntry)) (input output : Forest Resolved) (ns : List Counted) (p : Passage) (ws : List Lexeme) → IsPassage p ws → IsLiteral p → (d : Deeds Test) (m : ℕ)
+    → AreDeeds values (all_entries input output) input output ns p d m → Means input output (words_by_turn ns p) d m
+comes_literal values input output ns NoMore ws says all d m (d_is, none) = means_as input output [] Nothing d 0 m (sym d_is) (sym none) ([], runs_none input output, none_done)
+comes_literal values input output ns (Moves own more) ws (rest, run, first, e, is) all d m (ms, next, count, others, meant, are, d_is, m_is) =
     let words = in_turn ns false 0 own in
     let some : 0 < length meant.statements = some_statements meant.statements words (some_in_turn ns own run) meant.spelled in
     let one : Means input output (words ∷ []) (Moving ms Nothing) count =
     means_as input output (words ∷ []) (Moving ms Nothing) (Moving ms Nothing) (length meant.statements) count refl (sym meant.many)
     (ms, alone_run input output words ms meant.statements meant.spelled meant.meant, inr (some, refl)) in
     means_as input output (words ∷ words_by_turn ns more) (before_deeds ms next) d (count + others) m (sym d_is) (sym m_is)
-    (means_both input output (words ∷ []) (words_by_turn ns more) (Moving ms Nothing) next count others one (comes_literal input output ns more rest is all next others are))
-comes_literal input output ns (Pause more) ws (pause, stops, rest, word, are, e, is) all d m h = comes_literal input output ns more rest is all d m h
-comes_literal input output ns (ALoop l body more) ws (head, within, stops, rest, end, h, b, inner, word, are, e, is) all d m (f, count, own, next, turned, others, loop, behind, d_is, m_is) =
+    (means_both input output (words ∷ []) (words_by_turn ns more) (Moving ms Nothing) next count others one (comes_literal values input output ns more rest is all next others are))
+comes_literal values input output ns (Pause more) ws (pause, stops, rest, word, are, e, is) all d m h = comes_literal values input output ns more rest is all d m h
+comes_literal values input output ns (ALoop l body more) ws (head, within, stops, rest, end, h, b, inner, word, are, e, is) all d m (f, count, own, next, turned, others, loop, behind, d_is, m_is) =
     let out : ℕ → List (List Lexeme) = λ i. words_by_turn (ns ++ counter_at l i ∷ []) body in
-    let first = loop_means (all_entries input output) ns l l.bound (λ i k c. AreDeeds (all_entries input output) input output (ns ++ counter_at l i ∷ []) body k c) out input output all.0
-    (λ i k c x. comes_literal input output (ns ++ counter_at l i ∷ []) body within inner (literal_within l body more all) k c x) f count own turned loop in
+    let first = loop_means (all_entries input output) ns l l.bound (λ i k c. AreDeeds values (all_entries input output) input output (ns ++ counter_at l i ∷ []) body k c) out input output all.0
+    (λ i k c x. comes_literal values input output (ns ++ counter_at l i ∷ []) body within inner (literal_within l body more all) k c x) f count own turned loop in
     means_as input output (turns out l.by (turns_of l) l.from ++ words_by_turn ns more) (joined_deeds own next) d (turned + others) m (sym d_is) (sym m_is)
     (means_both input output (turns out l.by (turns_of l) l.from) (words_by_turn ns more) own next turned others first
-    (comes_literal input output ns more rest is (literal_behind l body more all) next others behind))
-comes_literal input output ns (AChoice c branches more) ws says all d m h = absurd all
-comes_literal input output ns (ABranch t own others) ws says all d m h = absurd all
+    (comes_literal values input output ns more rest is (literal_behind l body more all) next others behind))
+comes_literal values input output ns (AChoice c branches more) ws says all d m h = absurd all
+comes_literal values input output ns (ABranch t own others) ws says all d m h = absurd all
 
 -- ---- what refuses runs refuses a passage
 
@@ -311,21 +313,21 @@ loop_refused_by : (f : MoveFault) (all : List Candidate) (ns : List Counted) (l 
 loop_refused_by f all ns l (ToNumber n) refused meant ends is = is
 loop_refused_by f all ns l (ToItem ws) refused meant ends is = absurd ends
 
-pub runs_turn_refused : (f : MoveFault) (all : List Candidate) (input output : Forest Resolved) (ns : List Counted) (p : Passage) → IsLiteral p → SomeOf (RunIsRefused f all input output) (words_by_turn ns p)
-    → IsTurnRefused f all input output ns p
-runs_turn_refused f all input output ns NoMore literal h = absurd h
-runs_turn_refused f all input output ns (Moves own more) literal (inl here) = inl here
-runs_turn_refused f all input output ns (Moves own more) literal (inr there) = inr (runs_turn_refused f all input output ns more literal there)
-runs_turn_refused f all input output ns (Pause more) literal h = runs_turn_refused f all input output ns more literal h
-runs_turn_refused f all input output ns (ALoop l body more) literal h =
+pub runs_turn_refused : (values : List (Bearer ValuedEntry)) (f : MoveFault) (all : List Candidate) (input output : Forest Resolved) (ns : List Counted) (p : Passage) → IsLiteral p → SomeOf (RunIsRefused f all input output) (words_by_turn ns p)
+    → IsTurnRefused values f all input output ns p
+runs_turn_refused values f all input output ns NoMore literal h = absurd h
+runs_turn_refused values f all input output ns (Moves own more) literal (inl here) = inl here
+runs_turn_refused values f all input output ns (Moves own more) literal (inr there) = inr (runs_turn_refused values f all input output ns more literal there)
+runs_turn_refused values f all input output ns (Pause more) literal h = runs_turn_refused values f all input output ns more literal h
+runs_turn_refused values f all input output ns (ALoop l body more) literal h =
     let out : ℕ → List (List Lexeme) = λ i. words_by_turn (ns ++ counter_at l i ∷ []) body in
     elim (some_parts (RunIsRefused f all input output) (turns out l.by (turns_of l) l.from) (words_by_turn ns more) h) [
       | inl here ↦
-          inl (loop_refused_by f all ns l l.bound (λ i. IsTurnRefused f all input output (ns ++ counter_at l i ∷ []) body)
-          (λ i. (d : Deeds Test) × (c : ℕ) × AreDeeds all input output (ns ++ counter_at l i ∷ []) body d c) literal.0
-          (turns_refused (RunIsRefused f all input output) out (λ i. IsTurnRefused f all input output (ns ++ counter_at l i ∷ []) body)
-          (λ i x. runs_turn_refused f all input output (ns ++ counter_at l i ∷ []) body (literal_within l body more literal) x) l.by (turns_of l) l.from here))
-      | inr there ↦ inr (runs_turn_refused f all input output ns more (literal_behind l body more literal) there)
+          inl (loop_refused_by f all ns l l.bound (λ i. IsTurnRefused values f all input output (ns ++ counter_at l i ∷ []) body)
+          (λ i. (d : Deeds Test) × (c : ℕ) × AreDeeds values all input output (ns ++ counter_at l i ∷ []) body d c) literal.0
+          (turns_refused (RunIsRefused f all input output) out (λ i. IsTurnRefused values f all input output (ns ++ counter_at l i ∷ []) body)
+          (λ i x. runs_turn_refused values f all input output (ns ++ counter_at l i ∷ []) body (literal_within l body more literal) x) l.by (turns_of l) l.from here))
+      | inr there ↦ inr (runs_turn_refused values f all input output ns more (literal_behind l body more literal) there)
     ]
-runs_turn_refused f all input output ns (AChoice c branches more) literal h = absurd literal
-runs_turn_refused f all input output ns (ABranch t own others) literal h = absurd literal
+runs_turn_refused values f all input output ns (AChoice c branches more) literal h = absurd literal
+runs_turn_refused values f all input output ns (ABranch t own others) literal h = absurd literal

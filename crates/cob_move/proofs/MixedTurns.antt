@@ -16,6 +16,8 @@ use Rattle.cob_move_names.specs.Candidates.{Candidate}
 use Rattle.cob_move_names.specs.References.{NamesOperand}
 use Rattle.cob_move_statements.specs.Laws.{OneListOfEnded, OneReference}
 use Rattle.cob_move_statements.specs.Written.{WrittenReference}
+use Rattle.cob_copybook_names.specs.Naming.{Bearer}
+use Rattle.cob_move_names.specs.Valued.{ValuedEntry}
 use Rattle.cob_move.specs.Deeds.{AreDeeds, ComeFirst, ComeFirstInLoop, IsBoundOf, IsLoopOf, IsRunMeant, count_of_turns, deeds_of_turns}
 use Rattle.cob_move.specs.DeedsLaws.{OneDeeds}
 use Rattle.cob_move.specs.DeedsRead.{deep}
@@ -141,54 +143,54 @@ plain_so (AChoice c branches more) none = absurd (let never : true ≡ false = n
 plain_so (ABranch t own others) none = absurd (let never : true ≡ false = none in cc)
 
 -- what comes to something in the first two turns does so in the third, with as many statements as in the second
-pub mixed_deeds : OneListOfEnded → OneReference → (input output : Forest Resolved) (all : List Candidate) (ks bs es : List Counted) (p : Passage) → HasNoChoice p → (d e : Deeds Test) (m n : ℕ) → AreMixedTurns ks bs es
-    → AreDeeds all input output ks p d m → AreDeeds all input output bs p e n → (f : Deeds Test) × AreDeeds all input output es p f n
-mixed_deeds ended one input output all ks bs es NoMore plain d e m n mixed (d_is, m_is) (e_is, n_is) = (Nothing, (refl, n_is))
-mixed_deeds ended one input output all ks bs es (Moves own more) plain d e m n mixed (ms, next, count, rest, run, are, d_is, m_is) (sm, txen, tnuoc, tser, nur, era, e_is, n_is) =
+pub mixed_deeds : (values : List (Bearer ValuedEntry)) → OneListOfEnded → OneReference → (input output : Forest Resolved) (all : List Candidate) (ks bs es : List Counted) (p : Passage) → HasNoChoice p → (d e : Deeds Test) (m n : ℕ) → AreMixedTurns ks bs es
+    → AreDeeds values all input output ks p d m → AreDeeds values all input output bs p e n → (f : Deeds Test) × AreDeeds values all input output es p f n
+mixed_deeds values ended one input output all ks bs es NoMore plain d e m n mixed (d_is, m_is) (e_is, n_is) = (Nothing, (refl, n_is))
+mixed_deeds values ended one input output all ks bs es (Moves own more) plain d e m n mixed (ms, next, count, rest, run, are, d_is, m_is) (sm, txen, tnuoc, tser, nur, era, e_is, n_is) =
     let (os, third) = mixed_run ended input output (in_turn ks false 0 own) (in_turn bs false 0 own) (in_turn es false 0 own) ms sm count tnuoc (mixed_in_turn ks bs es false 0 own mixed) run nur in
-    let (others, thirds) = mixed_deeds ended one input output all ks bs es more plain next txen rest tser mixed are era in
+    let (others, thirds) = mixed_deeds values ended one input output all ks bs es more plain next txen rest tser mixed are era in
     (before_deeds os others, (os, others, tnuoc, tser, third, thirds, refl, n_is))
-mixed_deeds ended one input output all ks bs es (Pause more) plain d e m n mixed are era = mixed_deeds ended one input output all ks bs es more plain d e m n mixed are era
-mixed_deeds ended one input output all ks bs es (ALoop l body more) plain d e m n mixed (f, count, own, next, turned, rest, loop, are, d_is, m_is) (g, other, nwo, txen, denrut, tser, pool, era, e_is, n_is) =
-    let (h, o, third) = mixed_loop one all ks bs es l l.bound (λ i x c. AreDeeds all input output (ks ++ counter_at l i ∷ []) body x c)
-    (λ i x c. AreDeeds all input output (bs ++ counter_at l i ∷ []) body x c) (λ i x c. AreDeeds all input output (es ++ counter_at l i ∷ []) body x c) mixed
-    (λ i j x y a b first second. mixed_deeds ended one input output all (ks ++ counter_at l i ∷ []) (bs ++ counter_at l j ∷ []) (es ++ counter_at l j ∷ []) body plain.0 x y a b
+mixed_deeds values ended one input output all ks bs es (Pause more) plain d e m n mixed are era = mixed_deeds values ended one input output all ks bs es more plain d e m n mixed are era
+mixed_deeds values ended one input output all ks bs es (ALoop l body more) plain d e m n mixed (f, count, own, next, turned, rest, loop, are, d_is, m_is) (g, other, nwo, txen, denrut, tser, pool, era, e_is, n_is) =
+    let (h, o, third) = mixed_loop one all ks bs es l l.bound (λ i x c. AreDeeds values all input output (ks ++ counter_at l i ∷ []) body x c)
+    (λ i x c. AreDeeds values all input output (bs ++ counter_at l i ∷ []) body x c) (λ i x c. AreDeeds values all input output (es ++ counter_at l i ∷ []) body x c) mixed
+    (λ i j x y a b first second. mixed_deeds values ended one input output all (ks ++ counter_at l i ∷ []) (bs ++ counter_at l j ∷ []) (es ++ counter_at l j ∷ []) body plain.0 x y a b
     (mixed_deeper ks bs es l.counter i j j mixed (inr refl)) first second)
-    (λ i j x y a b first second. mixed_deeds ended one input output all (bs ++ counter_at l i ∷ []) (es ++ counter_at l j ∷ []) (bs ++ counter_at l j ∷ []) body plain.0 x y a b
+    (λ i j x y a b first second. mixed_deeds values ended one input output all (bs ++ counter_at l i ∷ []) (es ++ counter_at l j ∷ []) (bs ++ counter_at l j ∷ []) body plain.0 x y a b
     (mixed_deeper bs es bs l.counter i j j (mixed_back ks bs es mixed) (inr refl)) first second) f g count other own nwo turned denrut loop pool in
-    let (others, thirds) = mixed_deeds ended one input output all ks bs es more plain.1 next txen rest tser mixed are era in
+    let (others, thirds) = mixed_deeds values ended one input output all ks bs es more plain.1 next txen rest tser mixed are era in
     (joined_deeds o others, (h, other, o, others, denrut, tser, third, thirds, refl, n_is))
-mixed_deeds ended one input output all ks bs es (AChoice c branches more) plain d e m n mixed are era = absurd plain
-mixed_deeds ended one input output all ks bs es (ABranch t own others) plain d e m n mixed are era = absurd plain
+mixed_deeds values ended one input output all ks bs es (AChoice c branches more) plain d e m n mixed are era = absurd plain
+mixed_deeds values ended one input output all ks bs es (ABranch t own others) plain d e m n mixed are era = absurd plain
 
 -- what comes first in the second turn comes first in the third, where the first comes to something
-pub mixed_first : OneListOfEnded → OneReference → (input output : Forest Resolved) (all : List Candidate) (ks bs es : List Counted) (p : Passage) → HasNoChoice p → (d : Deeds Test) (m many : ℕ) → AreMixedTurns ks bs es
-    → AreDeeds all input output ks p d m → ComeFirst all input output bs p many → ComeFirst all input output es p many
-mixed_first ended one input output all ks bs es NoMore plain d m many mixed are first = first
-mixed_first ended one input output all ks bs es (Moves own more) plain d m many mixed (ms, next, count, rest, run, are, d_is, m_is) (inl none) = inl none
-mixed_first ended one input output all ks bs es (Moves own more) plain d m many mixed (ms, next, count, rest, run, are, d_is, m_is) (inr (sm, tnuoc, tser, nur, first, cut)) =
+pub mixed_first : (values : List (Bearer ValuedEntry)) → OneListOfEnded → OneReference → (input output : Forest Resolved) (all : List Candidate) (ks bs es : List Counted) (p : Passage) → HasNoChoice p → (d : Deeds Test) (m many : ℕ) → AreMixedTurns ks bs es
+    → AreDeeds values all input output ks p d m → ComeFirst values all input output bs p many → ComeFirst values all input output es p many
+mixed_first values ended one input output all ks bs es NoMore plain d m many mixed are first = first
+mixed_first values ended one input output all ks bs es (Moves own more) plain d m many mixed (ms, next, count, rest, run, are, d_is, m_is) (inl none) = inl none
+mixed_first values ended one input output all ks bs es (Moves own more) plain d m many mixed (ms, next, count, rest, run, are, d_is, m_is) (inr (sm, tnuoc, tser, nur, first, cut)) =
     let (os, third) = mixed_run ended input output (in_turn ks false 0 own) (in_turn bs false 0 own) (in_turn es false 0 own) ms sm count tnuoc (mixed_in_turn ks bs es false 0 own mixed) run nur in
-    inr (os, tnuoc, tser, third, mixed_first ended one input output all ks bs es more plain next rest tser mixed are first, cut)
-mixed_first ended one input output all ks bs es (Pause more) plain d m many mixed are first = mixed_first ended one input output all ks bs es more plain d m many mixed are first
-mixed_first ended one input output all ks bs es (ALoop l body more) plain d m many mixed (f, count, own, next, turned, rest, loop, are, d_is, m_is) (inl none) = inl none
-mixed_first ended one input output all ks bs es (ALoop l body more) plain d m many mixed (f, count, own, next, turned, rest, loop, are, d_is, m_is) (inr (inl within)) =
-    inr (inl (first_loop one all ks bs es l l.bound (λ i x c. AreDeeds all input output (ks ++ counter_at l i ∷ []) body x c)
-    (λ i x c. AreDeeds all input output (bs ++ counter_at l i ∷ []) body x c) (λ i x c. AreDeeds all input output (es ++ counter_at l i ∷ []) body x c)
-    (λ i c. ComeFirst all input output (bs ++ counter_at l i ∷ []) body c) (λ i c. ComeFirst all input output (es ++ counter_at l i ∷ []) body c) mixed
-    (λ i j x y a b is si. mixed_deeds ended one input output all (ks ++ counter_at l i ∷ []) (bs ++ counter_at l j ∷ []) (es ++ counter_at l j ∷ []) body plain.0 x y a b
+    inr (os, tnuoc, tser, third, mixed_first values ended one input output all ks bs es more plain next rest tser mixed are first, cut)
+mixed_first values ended one input output all ks bs es (Pause more) plain d m many mixed are first = mixed_first values ended one input output all ks bs es more plain d m many mixed are first
+mixed_first values ended one input output all ks bs es (ALoop l body more) plain d m many mixed (f, count, own, next, turned, rest, loop, are, d_is, m_is) (inl none) = inl none
+mixed_first values ended one input output all ks bs es (ALoop l body more) plain d m many mixed (f, count, own, next, turned, rest, loop, are, d_is, m_is) (inr (inl within)) =
+    inr (inl (first_loop one all ks bs es l l.bound (λ i x c. AreDeeds values all input output (ks ++ counter_at l i ∷ []) body x c)
+    (λ i x c. AreDeeds values all input output (bs ++ counter_at l i ∷ []) body x c) (λ i x c. AreDeeds values all input output (es ++ counter_at l i ∷ []) body x c)
+    (λ i c. ComeFirst values all input output (bs ++ counter_at l i ∷ []) body c) (λ i c. ComeFirst values all input output (es ++ counter_at l i ∷ []) body c) mixed
+    (λ i j x y a b is si. mixed_deeds values ended one input output all (ks ++ counter_at l i ∷ []) (bs ++ counter_at l j ∷ []) (es ++ counter_at l j ∷ []) body plain.0 x y a b
     (mixed_deeper ks bs es l.counter i j j mixed (inr refl)) is si)
-    (λ i j x a o is part. mixed_first ended one input output all (ks ++ counter_at l i ∷ []) (bs ++ counter_at l j ∷ []) (es ++ counter_at l j ∷ []) body plain.0 x a o
+    (λ i j x a o is part. mixed_first values ended one input output all (ks ++ counter_at l i ∷ []) (bs ++ counter_at l j ∷ []) (es ++ counter_at l j ∷ []) body plain.0 x a o
     (mixed_deeper ks bs es l.counter i j j mixed (inr refl)) is part) f count own turned many loop within))
-mixed_first ended one input output all ks bs es (ALoop l body more) plain d m many mixed (f, count, own, next, turned, rest, loop, are, d_is, m_is) (inr (inr (g, other, nwo, denrut, tser, pool, first, cut))) =
-    let (h, o, third) = mixed_loop one all ks bs es l l.bound (λ i x c. AreDeeds all input output (ks ++ counter_at l i ∷ []) body x c)
-    (λ i x c. AreDeeds all input output (bs ++ counter_at l i ∷ []) body x c) (λ i x c. AreDeeds all input output (es ++ counter_at l i ∷ []) body x c) mixed
-    (λ i j x y a b is si. mixed_deeds ended one input output all (ks ++ counter_at l i ∷ []) (bs ++ counter_at l j ∷ []) (es ++ counter_at l j ∷ []) body plain.0 x y a b
+mixed_first values ended one input output all ks bs es (ALoop l body more) plain d m many mixed (f, count, own, next, turned, rest, loop, are, d_is, m_is) (inr (inr (g, other, nwo, denrut, tser, pool, first, cut))) =
+    let (h, o, third) = mixed_loop one all ks bs es l l.bound (λ i x c. AreDeeds values all input output (ks ++ counter_at l i ∷ []) body x c)
+    (λ i x c. AreDeeds values all input output (bs ++ counter_at l i ∷ []) body x c) (λ i x c. AreDeeds values all input output (es ++ counter_at l i ∷ []) body x c) mixed
+    (λ i j x y a b is si. mixed_deeds values ended one input output all (ks ++ counter_at l i ∷ []) (bs ++ counter_at l j ∷ []) (es ++ counter_at l j ∷ []) body plain.0 x y a b
     (mixed_deeper ks bs es l.counter i j j mixed (inr refl)) is si)
-    (λ i j x y a b is si. mixed_deeds ended one input output all (bs ++ counter_at l i ∷ []) (es ++ counter_at l j ∷ []) (bs ++ counter_at l j ∷ []) body plain.0 x y a b
+    (λ i j x y a b is si. mixed_deeds values ended one input output all (bs ++ counter_at l i ∷ []) (es ++ counter_at l j ∷ []) (bs ++ counter_at l j ∷ []) body plain.0 x y a b
     (mixed_deeper bs es bs l.counter i j j (mixed_back ks bs es mixed) (inr refl)) is si) f g count other own nwo turned denrut loop pool in
-    inr (inr (h, other, o, denrut, tser, third, mixed_first ended one input output all ks bs es more plain.1 next rest tser mixed are first, cut))
-mixed_first ended one input output all ks bs es (AChoice c branches more) plain d m many mixed are first = absurd plain
-mixed_first ended one input output all ks bs es (ABranch t own others) plain d m many mixed are first = absurd plain
+    inr (inr (h, other, o, denrut, tser, third, mixed_first values ended one input output all ks bs es more plain.1 next rest tser mixed are first, cut))
+mixed_first values ended one input output all ks bs es (AChoice c branches more) plain d m many mixed are first = absurd plain
+mixed_first values ended one input output all ks bs es (ABranch t own others) plain d m many mixed are first = absurd plain
 
 -- ---- how much comes first
 
@@ -260,36 +262,36 @@ loop_within all ns l (ToItem ws) meant part q one within early f count own m man
     ]
 
 -- what comes first in a passage that comes to something is no more than its statements, once for each loop that holds others
-pub first_within : OneDeeds → OneListOfEnded → OneReference → (input output : Forest Resolved) (all : List Candidate) (ns : List Counted) (p : Passage) → HasNoChoice p → (d : Deeds Test) (m many q : ℕ) → deep p ≤ q
-    → AreDeeds all input output ns p d m → ComeFirst all input output ns p many → many ≤ m * suc q
-first_within law ended one input output all ns NoMore plain d m many q low are first = omega (arith, first)
-first_within law ended one input output all ns (Moves own more) plain d m many q low (ms, next, count, rest, run, are, d_is, m_is) (inl none) = omega (arith, none)
-first_within law ended one input output all ns (Moves own more) plain d m many q low (ms, next, count, rest, run, are, d_is, m_is) (inr (sm, tnuoc, tser, nur, first, cut)) =
+pub first_within : (values : List (Bearer ValuedEntry)) → OneDeeds → OneListOfEnded → OneReference → (input output : Forest Resolved) (all : List Candidate) (ns : List Counted) (p : Passage) → HasNoChoice p → (d : Deeds Test) (m many q : ℕ) → deep p ≤ q
+    → AreDeeds values all input output ns p d m → ComeFirst values all input output ns p many → many ≤ m * suc q
+first_within values law ended one input output all ns NoMore plain d m many q low are first = omega (arith, first)
+first_within values law ended one input output all ns (Moves own more) plain d m many q low (ms, next, count, rest, run, are, d_is, m_is) (inl none) = omega (arith, none)
+first_within values law ended one input output all ns (Moves own more) plain d m many q low (ms, next, count, rest, run, are, d_is, m_is) (inr (sm, tnuoc, tser, nur, first, cut)) =
     let same : tnuoc ≡ count = (run_same ended (in_turn ns false 0 own) sm ms tnuoc count nur run) in
-    behind_within many m tser count rest q (first_within law ended one input output all ns more plain next rest tser q low are first) (omega (arith, cut, same)) m_is
+    behind_within many m tser count rest q (first_within values law ended one input output all ns more plain next rest tser q low are first) (omega (arith, cut, same)) m_is
   where
     run_same : OneListOfEnded → (ws : List Lexeme) (a b : List Move) (c e : ℕ) → IsRunMeant input output ws a c → IsRunMeant input output ws b e → c ≡ e
     run_same ended ws a b c e x y = x.many ∙ ap length (ended ws x.statements y.statements x.spelled y.spelled) ∙ sym y.many
-first_within law ended one input output all ns (Pause more) plain d m many q low are first = first_within law ended one input output all ns more plain d m many q low are first
-first_within law ended one input output all ns (ALoop l body more) plain d m many zero low are first = absurd (omega (arith, low, le-max_left (deep body + 1) (deep more)))
-first_within law ended one input output all ns (ALoop l body more) plain d m many (suc q) low (f, count, own, next, turned, rest, loop, are, d_is, m_is) (inl none) = omega (arith, none)
-first_within law ended one input output all ns (ALoop l body more) plain d m many (suc q) low (f, count, own, next, turned, rest, loop, are, d_is, m_is) (inr (inl within)) =
+first_within values law ended one input output all ns (Pause more) plain d m many q low are first = first_within values law ended one input output all ns more plain d m many q low are first
+first_within values law ended one input output all ns (ALoop l body more) plain d m many zero low are first = absurd (omega (arith, low, le-max_left (deep body + 1) (deep more)))
+first_within values law ended one input output all ns (ALoop l body more) plain d m many (suc q) low (f, count, own, next, turned, rest, loop, are, d_is, m_is) (inl none) = omega (arith, none)
+first_within values law ended one input output all ns (ALoop l body more) plain d m many (suc q) low (f, count, own, next, turned, rest, loop, are, d_is, m_is) (inr (inl within)) =
     front_within many m turned rest (suc q)
-    (loop_within all ns l l.bound (λ i x c. AreDeeds all input output (ns ++ counter_at l i ∷ []) body x c) (λ i c. ComeFirst all input output (ns ++ counter_at l i ∷ []) body c) (suc q)
-    (λ i x y a b is si. (law all input output (ns ++ counter_at l i ∷ []) body x y a b is si).1)
-    (λ i x a o is part. first_within law ended one input output all (ns ++ counter_at l i ∷ []) body plain.0 x a o q (omega (arith, low, le-max_left (deep body + 1) (deep more))) is part)
-    (λ i j x a o is part. mixed_first ended one input output all (ns ++ counter_at l i ∷ []) (ns ++ counter_at l j ∷ []) (ns ++ counter_at l i ∷ []) body plain.0 x a o
+    (loop_within all ns l l.bound (λ i x c. AreDeeds values all input output (ns ++ counter_at l i ∷ []) body x c) (λ i c. ComeFirst values all input output (ns ++ counter_at l i ∷ []) body c) (suc q)
+    (λ i x y a b is si. (law values all input output (ns ++ counter_at l i ∷ []) body x y a b is si).1)
+    (λ i x a o is part. first_within values law ended one input output all (ns ++ counter_at l i ∷ []) body plain.0 x a o q (omega (arith, low, le-max_left (deep body + 1) (deep more))) is part)
+    (λ i j x a o is part. mixed_first values ended one input output all (ns ++ counter_at l i ∷ []) (ns ++ counter_at l j ∷ []) (ns ++ counter_at l i ∷ []) body plain.0 x a o
     (mixed_deeper ns ns ns l.counter i j i (mixed_self ns) (inl refl)) is part) f count own turned many loop within) m_is
-first_within law ended one input output all ns (ALoop l body more) plain d m many (suc q) low (f, count, own, next, turned, rest, loop, are, d_is, m_is) (inr (inr (g, other, nwo, denrut, tser, pool, first, cut))) =
-    let same : denrut + 0 ≡ turned + 0 = (law all input output ns (ALoop l body NoMore) (joined_deeds nwo Nothing) (joined_deeds own Nothing) (denrut + 0) (turned + 0)
+first_within values law ended one input output all ns (ALoop l body more) plain d m many (suc q) low (f, count, own, next, turned, rest, loop, are, d_is, m_is) (inr (inr (g, other, nwo, denrut, tser, pool, first, cut))) =
+    let same : denrut + 0 ≡ turned + 0 = (law values all input output ns (ALoop l body NoMore) (joined_deeds nwo Nothing) (joined_deeds own Nothing) (denrut + 0) (turned + 0)
     (g, other, nwo, Nothing, denrut, 0, pool, (refl, refl), refl, refl) (f, count, own, Nothing, turned, 0, loop, (refl, refl), refl, refl)).1 in
-    behind_within many m tser turned rest (suc q) (first_within law ended one input output all ns more plain.1 next rest tser (suc q) (omega (arith, low, le-max_right (deep body + 1) (deep more))) are first) (omega (arith, cut, same)) m_is
-first_within law ended one input output all ns (AChoice c branches more) plain d m many q low are first = absurd plain
-first_within law ended one input output all ns (ABranch t own others) plain d m many q low are first = absurd plain
+    behind_within many m tser turned rest (suc q) (first_within values law ended one input output all ns more plain.1 next rest tser (suc q) (omega (arith, low, le-max_right (deep body + 1) (deep more))) are first) (omega (arith, cut, same)) m_is
+first_within values law ended one input output all ns (AChoice c branches more) plain d m many q low are first = absurd plain
+first_within values law ended one input output all ns (ABranch t own others) plain d m many q low are first = absurd plain
 
 -- What comes first in a turn behind one that comes to something: so few statements, that with those so far they are few.
-pub late_within : OneDeeds → OneListOfEnded → OneReference → (input output : Forest Resolved) (all : List Candidate) (ns : List Counted) (l : WrittenLoop) (p : Passage) (i j : ℕ) (d : Deeds Test) (m many q : ℕ) → HasNoChoice p → deep p ≤ q
-    → AreDeeds all input output (ns ++ counter_at l i ∷ []) p d m → ComeFirst all input output (ns ++ counter_at l j ∷ []) p many → many ≤ m * suc q
-late_within law ended one input output all ns l p i j d m many q plain low are first =
-    first_within law ended one input output all (ns ++ counter_at l i ∷ []) p plain d m many q low are
-    (mixed_first ended one input output all (ns ++ counter_at l i ∷ []) (ns ++ counter_at l j ∷ []) (ns ++ counter_at l i ∷ []) p plain d m many (mixed_deeper ns ns ns l.counter i j i (mixed_self ns) (inl refl)) are first)
+pub late_within : (values : List (Bearer ValuedEntry)) → OneDeeds → OneListOfEnded → OneReference → (input output : Forest Resolved) (all : List Candidate) (ns : List Counted) (l : WrittenLoop) (p : Passage) (i j : ℕ) (d : Deeds Test) (m many q : ℕ) → HasNoChoice p → deep p ≤ q
+    → AreDeeds values all input output (ns ++ counter_at l i ∷ []) p d m → ComeFirst values all input output (ns ++ counter_at l j ∷ []) p many → many ≤ m * suc q
+late_within values law ended one input output all ns l p i j d m many q plain low are first =
+    first_within values law ended one input output all (ns ++ counter_at l i ∷ []) p plain d m many q low are
+    (mixed_first values ended one input output all (ns ++ counter_at l i ∷ []) (ns ++ counter_at l j ∷ []) (ns ++ counter_at l i ∷ []) p plain d m many (mixed_deeper ns ns ns l.counter i j i (mixed_self ns) (inl refl)) are first)

@@ -6,6 +6,7 @@ use Rattle.cob_source.specs.declared.fault.SourceRule.{SourceRule}
 use Rattle.cob_source.specs.declared.fault.SourceRule.TheVariants as source
 use Rattle.cob_source.specs.Words.{AreParagraphWordsOf, IsSourceRefusal, ParagraphWordsAreOne}
 use Rattle.cob_copybook.specs.Books.{IsRecordDescription}
+use Rattle.cob_copybook_names.specs.Naming.{Bearer}
 use Rattle.cob_copybook_tree.specs.Forests.{Forest}
 use Rattle.cob_copybook_tree.specs.Nodes.{Resolved}
 use Rattle.cob_move_statements.specs.declared.fault.MoveFault.{MoveFault}
@@ -19,12 +20,13 @@ use Rattle.cob_move_deeds.specs.Deeds.{Carried, Deeds, IsStraight, Moving, Nothi
 use Rattle.cob_move_deeds.specs.Laws.{StraightIsApplied}
 use Rattle.cob_move_deeds.specs.Tests.{Judged, Test}
 use Rattle.cob_move_names.specs.Candidates.{Candidate, all_entries}
+use Rattle.cob_move_names.specs.Valued.{PlainConditionNames, ValuedEntry, all_values}
 use Rattle.cob_move_loops.specs.Bounded.{AreBounded, IsBounded, LacksBound}
 use Rattle.cob_move_loops.specs.Laws.{BreaksNone, OnePassage}
 use Rattle.cob_move_loops.specs.Passages.{ABranch, AChoice, ALoop, IsPassage, Moves, NoMore, Passage, Pause}
 use Rattle.cob_move_loops.specs.Turns.{words_by_turn}
 use Rattle.cob_move_tests.specs.declared.entries.Entries.{Entries}
-use Rattle.cob_move_tests.specs.Entries.{AllMayBeNamed, nameable, records_of}
+use Rattle.cob_move_tests.specs.Entries.{AllMayBeNamed, nameable, records_of, valued_in}
 use Rattle.cob_move.specs.Bodies.{AreCounters, HasPassage, IsBodyIn}
 use Rattle.cob_move.specs.Deeds.{AreDeeds, ComeFirst, IsTurnRefused}
 use Rattle.cob_move.specs.DeedsLaws.{DeedsBreakNoRule, OneDeeds}
@@ -41,32 +43,33 @@ use Rattle.cob_move.specs.Laws.{DoneIsApplied, LiteralParagraph, OneParagraph, P
 -- ---- refusals
 
 -- what refuses a text's words refuses the paragraph
-pub source_refused : (r : SourceRule) (line : ℕ) (text : List ℕ) (input output : Forest Resolved) → IsSourceRefusal r line text → IsRefusalOf (paragraph_fault_by r line) text input output
-source_refused source.Memory line text input output is = inl refl
-source_refused source.NotAscii line text input output is = inl is
-source_refused source.Tab line text input output is = inl is
-source_refused source.OpenLiteral line text input output is = inl is
-source_refused source.BadContinuation line text input output is = inl is
-source_refused source.TooLong line text input output is = inl is
-source_refused source.UnknownIndicator line text input output is = inl is
+pub source_refused : (r : SourceRule) (line : ℕ) (text : List ℕ) (input output : Forest Resolved) (names : PlainConditionNames) → IsSourceRefusal r line text → IsRefusalOf (paragraph_fault_by r line) text input output names
+source_refused source.Memory line text input output names is = inl refl
+source_refused source.NotAscii line text input output names is = inl is
+source_refused source.Tab line text input output names is = inl is
+source_refused source.OpenLiteral line text input output names is = inl is
+source_refused source.BadContinuation line text input output names is = inl is
+source_refused source.TooLong line text input output names is = inl is
+source_refused source.UnknownIndicator line text input output names is = inl is
 
 -- so does what refuses the words behind its heading
-pub body_refused : (text : List ℕ) (words body : List Lexeme) (all : List Candidate) (input output : Forest Resolved) (f : MoveFault) → AreParagraphWordsOf text words → IsBodyIn words body
-    → IsBodyRefusal f all input output body → all ≡ all_entries input output → IsRefusalOf f text input output
-body_refused text words body all input output f are is refused named = inr (record {
+pub body_refused : (text : List ℕ) (words body : List Lexeme) (e : Entries) (names : PlainConditionNames) (f : MoveFault) → AreParagraphWordsOf text words → IsBodyIn words body
+    → DeedsRefused f e body → AllMayBeNamed e → valued_in e ≡ all_values e.input.now e.output.now names → IsRefusalOf f text e.input.now e.output.now names
+body_refused text words body e names f are is refused named valued = inr (record {
   words = words;
   body = body;
   are_words = are;
   is_body = is;
-  refused = subst (λ (every : List Candidate). IsBodyRefusal f every input output body) named refused;
+  refused = subst (λ (values : List (Bearer ValuedEntry)). IsBodyRefusal values f (all_entries e.input.now e.output.now) e.input.now e.output.now body) valued
+      (subst (λ (every : List Candidate). IsBodyRefusal (valued_in e) f every e.input.now e.output.now body) named refused);
 })
 
 -- ---- what a text does
 
 -- what the words behind a heading come to is what the text does
-pub says_paragraph : (text : List ℕ) (words body : List Lexeme) (e : Entries) (d : Deeds Test) → AreParagraphWordsOf text words → IsBodyIn words body → SaysDeeds e body d → AllMayBeNamed e
-    → IsParagraphOf text e.input.now e.output.now d
-says_paragraph text words body e d are is says named = record {
+pub says_paragraph : (text : List ℕ) (words body : List Lexeme) (e : Entries) (names : PlainConditionNames) (d : Deeds Test) → AreParagraphWordsOf text words → IsBodyIn words body → SaysDeeds e body d → AllMayBeNamed e
+    → valued_in e ≡ all_values e.input.now e.output.now names → IsParagraphOf text e.input.now e.output.now names d
+says_paragraph text words body e names d are is says named valued = record {
   words = words;
   passage = says.judged.passage;
   many = says.many;
@@ -84,8 +87,10 @@ says_paragraph text words body e d are is says named = record {
   };
   counters = subst (λ (all : List Candidate). AreCounters all says.judged.passage) named says.judged.counters;
   bounded = says.bounded;
-  comes = subst (λ (all : List Candidate). AreDeeds all e.input.now e.output.now [] says.judged.passage d says.many) named says.comes;
-  few = subst (λ (all : List Candidate). ComesToFew all e.input.now e.output.now says.judged.passage) named says.few;
+  comes = subst (λ (values : List (Bearer ValuedEntry)). AreDeeds values (all_entries e.input.now e.output.now) e.input.now e.output.now [] says.judged.passage d says.many) valued
+      (subst (λ (all : List Candidate). AreDeeds (valued_in e) all e.input.now e.output.now [] says.judged.passage d says.many) named says.comes);
+  few = subst (λ (values : List (Bearer ValuedEntry)). ComesToFew values (all_entries e.input.now e.output.now) e.input.now e.output.now says.judged.passage) valued
+      (subst (λ (all : List Candidate). ComesToFew (valued_in e) all e.input.now e.output.now says.judged.passage) named says.few);
 }
 
 -- statements whose moves are done are what is done
@@ -96,13 +101,13 @@ open_done r (s ∷ ss) m d (inl done) size = absurd (omega (arith, done.0, size)
 open_done r (s ∷ ss) m d (inr done) size = done.1
 
 -- moves of statements are done where loops all end by numbers
-pub says_moves : (text : List ℕ) (input output : Forest Resolved) (list : List StatementMoves) → SaysMoves text input output list
-    → IsParagraphOf text input output (open_deeds (record { input = input; output = output }) list)
-says_moves text input output list (p, many) =
+pub says_moves : (text : List ℕ) (input output : Forest Resolved) (names : PlainConditionNames) (list : List StatementMoves) → SaysMoves text input output list
+    → IsParagraphOf text input output names (open_deeds (record { input = input; output = output }) list)
+says_moves text input output names list (p, many) =
     let r : Records = record { input = input; output = output } in
     let mean : RunsMean input output (words_by_turn [] p.passage) (moves r list) (length p.statements) = record { statements = p.statements; spelled = p.spelled; meant = p.meant; many = refl } in
-    let (d, comes, done) = literal_comes input output [] p.passage p.has.body p.has.says p.literal (moves r list) (length p.statements) mean in
-    subst (λ (k : Deeds Test). IsParagraphOf text input output k) (open_done r list (length p.statements) d done many) (record {
+    let (d, comes, done) = literal_comes (all_values input output names) input output [] p.passage p.has.body p.has.says p.literal (moves r list) (length p.statements) mean in
+    subst (λ (k : Deeds Test). IsParagraphOf text input output names k) (open_done r list (length p.statements) d done many) (record {
       words = p.words;
       passage = p.passage;
       many = length p.statements;
@@ -121,18 +126,18 @@ says_literal e body list named literal s =
     let r = records_of e in
     let mean : RunsMean e.input.now e.output.now (words_by_turn [] p) (moves r list) (length s.statements) =
     record { statements = s.statements; spelled = s.spelled; meant = meant_here (nameable e) r s.statements list named s.meant; many = refl } in
-    let (d, comes, done) = literal_comes e.input.now e.output.now [] p body s.judged.says (literal p s.judged.says) (moves r list) (length s.statements) mean in
+    let (d, comes, done) = literal_comes (valued_in e) e.input.now e.output.now [] p body s.judged.says (literal p s.judged.says) (moves r list) (length s.statements) mean in
     subst (λ (k : Deeds Test). SaysDeeds e body k) (open_done r list (length s.statements) d done s.many) (record {
       judged = s.judged;
       bounded = literal_bounded p (literal p s.judged.says);
       many = length s.statements;
-      comes = subst (λ (all : List Candidate). AreDeeds all e.input.now e.output.now [] p d (length s.statements)) (sym named) comes;
+      comes = subst (λ (all : List Candidate). AreDeeds (valued_in e) all e.input.now e.output.now [] p d (length s.statements)) (sym named) comes;
       few = λ none. absurd (none (literal p s.judged.says));
     })
 
 pub literal_refused : (f : MoveFault) (e : Entries) (body : List Lexeme) → AreLiteralWords body → BodyRefused f e body → DeedsRefused f e body
 literal_refused f e body literal (inl broken) = inl broken
-literal_refused f e body literal (inr (p, is, refused)) = inr (p, is, inr (inr (runs_turn_refused f (nameable e) e.input.now e.output.now [] p (literal p is) refused)))
+literal_refused f e body literal (inr (p, is, refused)) = inr (p, is, inr (inr (runs_turn_refused (valued_in e) f (nameable e) e.input.now e.output.now [] p (literal p is) refused)))
 
 -- ---- moves between the records
 
@@ -149,31 +154,31 @@ body_are_moves law e body list in_record out_record named s =
 -- ---- laws
 
 pub one_paragraph : ParagraphWordsAreOne → OnePassage → OneDeeds → OneParagraph
-one_paragraph words_one passage_one deeds_one text input output a b p q =
+one_paragraph words_one passage_one deeds_one text input output names a b p q =
     let words : q.words ≡ p.words = words_one text q.words p.words q.are_words p.are_words in
     let has : HasPassage p.words q.passage = subst (λ (ws : List Lexeme). HasPassage ws q.passage) words q.has in
     let body : has.body ≡ p.has.body = passage_body p.words q.passage p.passage has p.has in
     let passage : q.passage ≡ p.passage = passage_one q.passage p.passage p.has.body (subst (λ (ws : List Lexeme). IsPassage q.passage ws) body has.says) p.has.says in
-    (deeds_one (all_entries input output) input output [] p.passage a b p.many q.many p.comes
-    (subst (λ (k : Passage). AreDeeds (all_entries input output) input output [] k b q.many) passage q.comes)).0
+    (deeds_one (all_values input output names) (all_entries input output) input output [] p.passage a b p.many q.many p.comes
+    (subst (λ (k : Passage). AreDeeds (all_values input output names) (all_entries input output) input output [] k b q.many) passage q.comes)).0
 
-text_unbroken : (r : MoveRule) (line : ℕ) (text : List ℕ) (input output : Forest Resolved) (d : Deeds Test)
-    → IsParagraphOf text input output d → BreaksFormat r line text → r ≡ rule.Memory
-text_unbroken (rule.Source r) line text input output d p broken = absurd (p.are_words.breaks_none r line broken)
-text_unbroken rule.Memory line text input output d p broken = refl
-text_unbroken rule.Grammar line text input output d p broken = absurd broken
-text_unbroken rule.Unknown line text input output d p broken = absurd broken
-text_unbroken rule.Ambiguous line text input output d p broken = absurd broken
-text_unbroken rule.Subscripts line text input output d p broken = absurd broken
-text_unbroken rule.Receiver line text input output d p broken = absurd broken
-text_unbroken rule.NotAllowed line text input output d p broken = absurd broken
-text_unbroken rule.Literal line text input output d p broken = absurd broken
-text_unbroken rule.Groups line text input output d p broken = absurd broken
-text_unbroken rule.Twice line text input output d p broken = absurd broken
-text_unbroken rule.TooLong line text input output d p broken = absurd broken
-text_unbroken rule.Counter line text input output d p broken = absurd broken
-text_unbroken rule.TooMany line text input output d p broken = absurd broken
-text_unbroken rule.NotComparable line text input output d p broken = absurd broken
+text_unbroken : (r : MoveRule) (line : ℕ) (text : List ℕ) (input output : Forest Resolved) (names : PlainConditionNames) (d : Deeds Test)
+    → IsParagraphOf text input output names d → BreaksFormat r line text → r ≡ rule.Memory
+text_unbroken (rule.Source r) line text input output names d p broken = absurd (p.are_words.breaks_none r line broken)
+text_unbroken rule.Memory line text input output names d p broken = refl
+text_unbroken rule.Grammar line text input output names d p broken = absurd broken
+text_unbroken rule.Unknown line text input output names d p broken = absurd broken
+text_unbroken rule.Ambiguous line text input output names d p broken = absurd broken
+text_unbroken rule.Subscripts line text input output names d p broken = absurd broken
+text_unbroken rule.Receiver line text input output names d p broken = absurd broken
+text_unbroken rule.NotAllowed line text input output names d p broken = absurd broken
+text_unbroken rule.Literal line text input output names d p broken = absurd broken
+text_unbroken rule.Groups line text input output names d p broken = absurd broken
+text_unbroken rule.Twice line text input output names d p broken = absurd broken
+text_unbroken rule.TooLong line text input output names d p broken = absurd broken
+text_unbroken rule.Counter line text input output names d p broken = absurd broken
+text_unbroken rule.TooMany line text input output names d p broken = absurd broken
+text_unbroken rule.NotComparable line text input output names d p broken = absurd broken
 
 -- a passage whose loops are bounded lacks no bound
 none_lacks : (p : Passage) (line : ℕ) → AreBounded p → LacksBound p line → ⊥
@@ -189,28 +194,28 @@ none_lacks (ABranch t own others) line are (inl inner) = none_lacks own line are
 none_lacks (ABranch t own others) line are (inr behind) = none_lacks others line are.1 behind
 
 -- what refuses a passage, where it is a paragraph's
-passage_unrefused : DeedsBreakNoRule → (text : List ℕ) (input output : Forest Resolved) (d : Deeds Test) (f : MoveFault) (p : IsParagraphOf text input output d) (body : List Lexeme) (k : Passage) → k ≡ p.passage
-    → PassageRefused f (all_entries input output) input output body k → f.rule ≡ rule.Memory
-passage_unrefused unbroken text input output d f p body k same (inl (counter, lacks)) = absurd (none_lacks p.passage f.line p.bounded (subst (λ (q : Passage). LacksBound q f.line) same lacks))
-passage_unrefused unbroken text input output d f p body k same (inr (inl (many, line, literal, (m, first, most)))) =
-    let few = p.few (λ is. literal (subst (λ (q : Passage). IsLiteral q) (sym same) is)) m (subst (λ (q : Passage). ComeFirst (all_entries input output) input output [] q m) same first) in
+passage_unrefused : DeedsBreakNoRule → (text : List ℕ) (input output : Forest Resolved) (names : PlainConditionNames) (d : Deeds Test) (f : MoveFault) (p : IsParagraphOf text input output names d) (body : List Lexeme) (k : Passage) → k ≡ p.passage
+    → PassageRefused (all_values input output names) f (all_entries input output) input output body k → f.rule ≡ rule.Memory
+passage_unrefused unbroken text input output names d f p body k same (inl (counter, lacks)) = absurd (none_lacks p.passage f.line p.bounded (subst (λ (q : Passage). LacksBound q f.line) same lacks))
+passage_unrefused unbroken text input output names d f p body k same (inr (inl (many, line, literal, (m, first, most)))) =
+    let few = p.few (λ is. literal (subst (λ (q : Passage). IsLiteral q) (sym same) is)) m (subst (λ (q : Passage). ComeFirst (all_values input output names) (all_entries input output) input output [] q m) same first) in
     absurd (omega (arith, few, most))
-passage_unrefused unbroken text input output d f p body k same (inr (inr refused)) =
-    unbroken f input output [] p.passage d p.many p.comes (subst (λ (q : Passage). IsTurnRefused f (all_entries input output) input output [] q) same refused)
+passage_unrefused unbroken text input output names d f p body k same (inr (inr refused)) =
+    unbroken (all_values input output names) f input output [] p.passage d p.many p.comes (subst (λ (q : Passage). IsTurnRefused (all_values input output names) f (all_entries input output) input output [] q) same refused)
 
-words_unbroken : OnePassage → BreaksNone → DeedsBreakNoRule → (text : List ℕ) (input output : Forest Resolved) (d : Deeds Test) (f : MoveFault) (p : IsParagraphOf text input output d)
-    (body : List Lexeme) → body ≡ p.has.body → IsBodyRefusal f (all_entries input output) input output body → f.rule ≡ rule.Memory
-words_unbroken passage_one none unbroken text input output d f p body same (inl broken) =
+words_unbroken : OnePassage → BreaksNone → DeedsBreakNoRule → (text : List ℕ) (input output : Forest Resolved) (names : PlainConditionNames) (d : Deeds Test) (f : MoveFault) (p : IsParagraphOf text input output names d)
+    (body : List Lexeme) → body ≡ p.has.body → IsBodyRefusal (all_values input output names) f (all_entries input output) input output body → f.rule ≡ rule.Memory
+words_unbroken passage_one none unbroken text input output names d f p body same (inl broken) =
     passage_unbroken passage_one none f.rule f.line (all_entries input output) p.words body p.passage p.has p.counters same broken
-words_unbroken passage_one none unbroken text input output d f p body same (inr (k, is, refused)) =
-    passage_unrefused unbroken text input output d f p body k (passage_one k p.passage p.has.body (subst (λ (ws : List Lexeme). IsPassage k ws) same is) p.has.says) refused
+words_unbroken passage_one none unbroken text input output names d f p body same (inr (k, is, refused)) =
+    passage_unrefused unbroken text input output names d f p body k (passage_one k p.passage p.has.body (subst (λ (ws : List Lexeme). IsPassage k ws) same is) p.has.says) refused
 
 pub paragraph_breaks_no_rule : ParagraphWordsAreOne → OnePassage → BreaksNone → DeedsBreakNoRule → ParagraphBreaksNoRule
-paragraph_breaks_no_rule words_one passage_one none unbroken text input output d f p (inl broken) = text_unbroken f.rule f.line text input output d p broken
-paragraph_breaks_no_rule words_one passage_one none unbroken text input output d f p (inr q) =
+paragraph_breaks_no_rule words_one passage_one none unbroken text input output names d f p (inl broken) = text_unbroken f.rule f.line text input output names d p broken
+paragraph_breaks_no_rule words_one passage_one none unbroken text input output names d f p (inr q) =
     let words : q.words ≡ p.words = words_one text q.words p.words q.are_words p.are_words in
     let body : q.body ≡ p.has.body = body_of_passage p.words q.body p.passage p.has (subst (λ (ws : List Lexeme). IsBodyIn ws q.body) words q.is_body) in
-    words_unbroken passage_one none unbroken text input output d f p q.body body q.refused
+    words_unbroken passage_one none unbroken text input output names d f p q.body body q.refused
 
 -- nothing is done, or moves are, as it is by their number
 done_of : (m : ℕ) (ms : List Move) (d : Deeds Test) → AreDoneBy m ms d → AreDone ms d
@@ -218,9 +223,9 @@ done_of m ms d (inl done) = inr (done.1, done.2)
 done_of m ms d (inr done) = inl done.1
 
 pub literal_paragraph : LiteralParagraph
-literal_paragraph text input output = (
+literal_paragraph text input output names = (
   λ ms p.
-      let (d, comes, done) = literal_comes input output [] p.passage p.has.body p.has.says p.literal ms (length p.statements)
+      let (d, comes, done) = literal_comes (all_values input output names) input output [] p.passage p.has.body p.has.says p.literal ms (length p.statements)
       (record { statements = p.statements; spelled = p.spelled; meant = p.meant; many = refl }) in (
         d,
         record {
@@ -237,7 +242,7 @@ literal_paragraph text input output = (
         done_of (length p.statements) ms d done,
       ),
   λ d p literal.
-      let (ms, mean, done) = comes_literal input output [] p.passage p.has.body p.has.says literal d p.many p.comes in (
+      let (ms, mean, done) = comes_literal (all_values input output names) input output [] p.passage p.has.body p.has.says literal d p.many p.comes in (
         ms,
         record {
           words = p.words;

@@ -20,12 +20,14 @@ use Rattle.cob_move_loops.proofs.PassageLemmas.{head_first, nothing_left, shorte
 use Rattle.cob_move_statements.specs.Statements.{IsEndedStatement, IsParagraph, Several}
 use Rattle.cob_move_statements.specs.Written.{WrittenStatement}
 use Rattle.cob_move_statements.proofs.ParagraphLemmas.{statements_first}
+use Rattle.cob_copybook_names.specs.Naming.{Bearer}
 use Rattle.cob_copybook_tree.specs.Forests.{Forest}
 use Rattle.cob_copybook_tree.specs.Nodes.{Resolved}
 use Rattle.cob_move_data.specs.Moves.{Move}
 use Rattle.cob_move_deeds.specs.Deeds.{Deeds, Moving, Nothing}
 use Rattle.cob_move_deeds.specs.Tests.{Test}
 use Rattle.cob_move_names.specs.Candidates.{all_entries}
+use Rattle.cob_move_names.specs.Valued.{PlainConditionNames, ValuedEntry, all_values}
 use Rattle.cob_move.specs.Bodies.{AreSpelled, HasPassage}
 use Rattle.cob_move.specs.Deeds.{AreDeeds}
 use Rattle.cob_move.specs.Joined.{before_deeds}
@@ -146,8 +148,8 @@ record RunDone (input output : Forest Resolved) (body : List Lexeme) (d : Deeds 
   pub meant : AreMeant input output statements moves
   pub done : d ≡ Moving moves Nothing
 
-run_done : NoTurn → (input output : Forest Resolved) (body : List Lexeme) (d : Deeds Test) (m : ℕ) → AreDeeds (all_entries input output) input output [] (Moves body NoMore) d m → RunDone input output body d
-run_done no_turn input output body d m (ms, next, count, rest, run, (none, zero_is), d_is, m_is) = record {
+run_done : NoTurn → (values : List (Bearer ValuedEntry)) (input output : Forest Resolved) (body : List Lexeme) (d : Deeds Test) (m : ℕ) → AreDeeds values (all_entries input output) input output [] (Moves body NoMore) d m → RunDone input output body d
+run_done no_turn values input output body d m (ms, next, count, rest, run, (none, zero_is), d_is, m_is) = record {
   moves = ms;
   statements = run.statements;
   spelled = subst (λ (ws : List Lexeme). Several IsEndedStatement run.statements ws) (no_turn body) run.spelled;
@@ -155,20 +157,20 @@ run_done no_turn input output body d m (ms, next, count, rest, run, (none, zero_
   done = d_is ∙ ap (λ (k : Deeds Test). before_deeds ms k) none;
 }
 
-plain_done : NoTurn → (text : List ℕ) (input output : Forest Resolved) (d : Deeds Test) (p : IsParagraphOf text input output d) → AllByRecursion IsOther p.words
+plain_done : NoTurn → (text : List ℕ) (input output : Forest Resolved) (names : PlainConditionNames) (d : Deeds Test) (p : IsParagraphOf text input output names d) → AllByRecursion IsOther p.words
     → (ms : List Move) × IsPlainParagraphOf text input output ms × (d ≡ Moving ms Nothing)
-plain_done no_turn text input output d p all =
+plain_done no_turn text input output names d p all =
     let h = p.has in
     let parts : AllByRecursion IsOther (h.heading ++ h.body) = subst (λ (ws : List Lexeme). AllByRecursion IsOther ws) h.words_are all in
     let one : p.passage ≡ Moves h.body NoMore = plain_is p.passage h.body h.says (others_behind h.heading h.body parts) h.some in
-    let run = run_done no_turn input output h.body d p.many (subst (λ (k : Passage). AreDeeds (all_entries input output) input output [] k d p.many) one p.comes) in (
+    let run = run_done no_turn (all_values input output names) input output h.body d p.many (subst (λ (k : Passage). AreDeeds (all_values input output names) (all_entries input output) input output [] k d p.many) one p.comes) in (
       run.moves,
       record { words = p.words; statements = run.statements; are_words = p.are_words; spelled = plain_words p.words p.passage h run.statements run.spelled; meant = run.meant },
       run.done,
     )
 
-done_plain : NoTurn → (text : List ℕ) (input output : Forest Resolved) (ms : List Move) (p : IsPlainParagraphOf text input output ms) → AllByRecursion IsOther p.words → IsParagraphOf text input output (Moving ms Nothing)
-done_plain no_turn text input output ms p plain = record {
+done_plain : NoTurn → (text : List ℕ) (input output : Forest Resolved) (names : PlainConditionNames) (ms : List Move) (p : IsPlainParagraphOf text input output ms) → AllByRecursion IsOther p.words → IsParagraphOf text input output names (Moving ms Nothing)
+done_plain no_turn text input output names ms p plain = record {
   words = p.words;
   passage = Moves p.spelled.body NoMore;
   many = length p.statements + 0;
@@ -195,8 +197,8 @@ done_plain no_turn text input output ms p plain = record {
 }
 
 pub plain_paragraph : ParagraphWordsAreOne → NoTurn → PlainParagraph
-plain_paragraph words_one no_turn text input output d words are all = (
-  λ p. plain_done no_turn text input output d p (subst (λ (ws : List Lexeme). AllByRecursion IsOther ws) (words_one text words p.words are p.are_words) all),
-  λ (ms, p, done). subst (λ (k : Deeds Test). IsParagraphOf text input output k) (sym done)
-      (done_plain no_turn text input output ms p (subst (λ (ws : List Lexeme). AllByRecursion IsOther ws) (words_one text words p.words are p.are_words) all)),
+plain_paragraph words_one no_turn text input output names d words are all = (
+  λ p. plain_done no_turn text input output names d p (subst (λ (ws : List Lexeme). AllByRecursion IsOther ws) (words_one text words p.words are p.are_words) all),
+  λ (ms, p, done). subst (λ (k : Deeds Test). IsParagraphOf text input output names k) (sym done)
+      (done_plain no_turn text input output names ms p (subst (λ (ws : List Lexeme). AllByRecursion IsOther ws) (words_one text words p.words are p.are_words) all)),
 )

@@ -34,7 +34,7 @@ use Rattle.cob_move.specs.declared.made.NotRead.TheVariants as why
 use Rattle.cob_move.specs.declared.made.Sizes.{Sizes}
 use Rattle.cob_move_tests.specs.declared.entries.Entries.{Entries}
 use Rattle.cob_move_tests.specs.declared.entries.NamedEntry.{NamedEntry}
-use Rattle.cob_move_tests.specs.Entries.{AllMayBeNamed, nameable, records_of}
+use Rattle.cob_move_tests.specs.Entries.{AllMayBeNamed, nameable, records_of, valued_in}
 use Rattle.cob_move.specs.Deeds.{AreDeeds, ComeFirstInLoop, IsBoundOf, IsLoopOf, IsLoopRefused, IsTurnRefused, count_of_turns}
 use Rattle.cob_move.specs.DeedsRead.{AddsDeeds, AddsLoop, AddsMade, AreKept, AreParted, AreTurns, BoundNotRead, BreaksInSomeTurn, FewWith, FirstBelow, FirstIn, FirstInLoop, HasBounds, HasGrown, HasNoTurn, IsBoundRead, IsFrontOf, IsMade, IsNotBroken, IsRefusedIn, IsSizeOf, LeavesFront, LoopComesTo, LoopRefused, MadeLists, PassageComesTo, ReadsTurns, TurnRefused, all_deeds, closed, closed_where, flow_lists, in_its_turn, last_marked, linked_turns, made_deeds, open_deeds, open_statements, taken_back, without_flows}
 use Rattle.cob_move.specs.DeedsLaws.{DeedsBreakNoRule, OneDeeds}
@@ -521,8 +521,8 @@ loop_added e ns l p n ws behind next turns b old now bound named kept first last
 pub no_turn_comes : DeedsBreakNoRule → (e : Entries) (ns : List Counted) (p : Passage) (body : List Lexeme) → AllMayBeNamed e → (before : ℕ) → HasNoTurn e ns body before → IsPassage p body → (d : Deeds Test) (c : ℕ) → PassageComesTo e ns p d c → ⊥
 no_turn_comes law e ns p body named before (f, broken) is d c comes =
     let k = broken p is in
-    k.0 (law f e.input.now e.output.now ns p d c (subst (λ (all : List Candidate). AreDeeds all e.input.now e.output.now ns p d c) named comes)
-    (subst (λ (all : List Candidate). IsTurnRefused f all e.input.now e.output.now ns p) named k.1))
+    k.0 (law (valued_in e) f e.input.now e.output.now ns p d c (subst (λ (all : List Candidate). AreDeeds (valued_in e) all e.input.now e.output.now ns p d c) named comes)
+    (subst (λ (all : List Candidate). IsTurnRefused (valued_in e) f all e.input.now e.output.now ns p) named k.1))
 
 -- ---- what the reader of a loop to an item answers
 

@@ -23,6 +23,8 @@ use Rattle.cob_move_statements.specs.declared.fault.MoveRule.{MoveRule}
 use Rattle.cob_move_statements.specs.declared.fault.MoveRule.TheVariants as rule
 use Rattle.cob_move_statements.specs.Statements.{IsEndedStatement, IsReference, Several}
 use Rattle.cob_move_statements.specs.Written.{WrittenReference, WrittenStatement}
+use Rattle.cob_copybook_names.specs.Naming.{Bearer}
+use Rattle.cob_move_names.specs.Valued.{ValuedEntry}
 use Rattle.cob_move.specs.Joined.{before_deeds, joined_deeds}
 use Rattle.cob_move.specs.Meaning.{AreMeant}
 use Rattle.cob_move.specs.Bodies.{RunIsRefused}
@@ -72,33 +74,33 @@ pub data Standing : Type 0 where
 -- What is read comes to where the counters round it have these numbers, and to how many statements within loops and outside of them. A choice is one itself,
 -- and it is tests of its branches, one within what is done where those before don't hold; what stands behind it is done in any case. A branch without
 -- statements has those of the next: it is taken where its test holds, or the next one's, or that of a branch before it that has the same.
-abbrev pub AreDeedsAt : List Candidate → Forest Resolved → Forest Resolved → List Counted → Standing → Option Condition → Passage → Deeds Test → ℕ → Type 0
-AreDeedsAt all input output ns at waiting NoMore d many = (d ≡ Nothing) × (many ≡ 0)
-AreDeedsAt all input output ns InStatements waiting (Moves own more) d many = (ms : List Move) × (next : Deeds Test) × (count rest : ℕ)
-    × IsRunMeant input output (in_turn ns false 0 own) ms count × AreDeedsAt all input output ns InStatements None more next rest × (d ≡ before_deeds ms next) × (many ≡ count + rest)
-AreDeedsAt all input output ns InStatements waiting (Pause more) d many = AreDeedsAt all input output ns InStatements None more d many
-AreDeedsAt all input output ns InStatements waiting (ALoop l body more) d many = (f : ℕ → Deeds Test) × (count : ℕ → ℕ) × (own next : Deeds Test) × (turned rest : ℕ)
-    × IsLoopOf all ns l l.bound (λ i e c. AreDeedsAt all input output (ns ++ counter_at l i ∷ []) InStatements None body e c) f count own turned
-    × AreDeedsAt all input output ns InStatements None more next rest × (d ≡ joined_deeds own next) × (many ≡ turned + rest)
-AreDeedsAt all input output ns InStatements waiting (AChoice c branches more) d many = (a : Against) × (own next : Deeds Test) × (inside rest : ℕ)
-    × IsSubjectOf (record { input = input; output = output }) ns c a × AreDeedsAt all input output ns (InBranches a) None branches own inside
-    × AreDeedsAt all input output ns InStatements None more next rest × (d ≡ joined_deeds own next) × (many ≡ 1 + inside + rest)
-AreDeedsAt all input output ns InStatements waiting (ABranch t own others) d many = ⊥
-AreDeedsAt all input output ns (InBranches a) waiting (Moves own more) d many = ⊥
-AreDeedsAt all input output ns (InBranches a) waiting (Pause more) d many = ⊥
-AreDeedsAt all input output ns (InBranches a) waiting (ALoop l body more) d many = ⊥
-AreDeedsAt all input output ns (InBranches a) waiting (AChoice c branches more) d many = ⊥
-AreDeedsAt all input output ns (InBranches a) waiting (ABranch Otherwise own others) d many = AreDeedsAt all input output ns InStatements None own d many
-AreDeedsAt all input output ns (InBranches a) waiting (ABranch (Tested ws) own others) d many = (t : Condition)
-    × IsBranchTestOf (record { input = input; output = output }) ns a ws t
-    × (((own ≡ NoMore) × AreDeedsAt all input output ns (InBranches a) (Some (joined_test waiting t)) others d many)
+abbrev pub AreDeedsAt : List (Bearer ValuedEntry) → List Candidate → Forest Resolved → Forest Resolved → List Counted → Standing → Option Condition → Passage → Deeds Test → ℕ → Type 0
+AreDeedsAt values all input output ns at waiting NoMore d many = (d ≡ Nothing) × (many ≡ 0)
+AreDeedsAt values all input output ns InStatements waiting (Moves own more) d many = (ms : List Move) × (next : Deeds Test) × (count rest : ℕ)
+    × IsRunMeant input output (in_turn ns false 0 own) ms count × AreDeedsAt values all input output ns InStatements None more next rest × (d ≡ before_deeds ms next) × (many ≡ count + rest)
+AreDeedsAt values all input output ns InStatements waiting (Pause more) d many = AreDeedsAt values all input output ns InStatements None more d many
+AreDeedsAt values all input output ns InStatements waiting (ALoop l body more) d many = (f : ℕ → Deeds Test) × (count : ℕ → ℕ) × (own next : Deeds Test) × (turned rest : ℕ)
+    × IsLoopOf all ns l l.bound (λ i e c. AreDeedsAt values all input output (ns ++ counter_at l i ∷ []) InStatements None body e c) f count own turned
+    × AreDeedsAt values all input output ns InStatements None more next rest × (d ≡ joined_deeds own next) × (many ≡ turned + rest)
+AreDeedsAt values all input output ns InStatements waiting (AChoice c branches more) d many = (a : Against) × (own next : Deeds Test) × (inside rest : ℕ)
+    × IsSubjectOf (record { input = input; output = output }) ns c a × AreDeedsAt values all input output ns (InBranches a) None branches own inside
+    × AreDeedsAt values all input output ns InStatements None more next rest × (d ≡ joined_deeds own next) × (many ≡ 1 + inside + rest)
+AreDeedsAt values all input output ns InStatements waiting (ABranch t own others) d many = ⊥
+AreDeedsAt values all input output ns (InBranches a) waiting (Moves own more) d many = ⊥
+AreDeedsAt values all input output ns (InBranches a) waiting (Pause more) d many = ⊥
+AreDeedsAt values all input output ns (InBranches a) waiting (ALoop l body more) d many = ⊥
+AreDeedsAt values all input output ns (InBranches a) waiting (AChoice c branches more) d many = ⊥
+AreDeedsAt values all input output ns (InBranches a) waiting (ABranch Otherwise own others) d many = AreDeedsAt values all input output ns InStatements None own d many
+AreDeedsAt values all input output ns (InBranches a) waiting (ABranch (Tested ws) own others) d many = (t : Condition)
+    × IsBranchTestOf (record { input = input; output = output }) values ns a ws t
+    × (((own ≡ NoMore) × AreDeedsAt values all input output ns (InBranches a) (Some (joined_test waiting t)) others d many)
     ⊎ ((own ≡ NoMore → ⊥) × (holding lacking : Deeds Test) × (some rest : ℕ)
-    × AreDeedsAt all input output ns InStatements None own holding some × AreDeedsAt all input output ns (InBranches a) None others lacking rest
+    × AreDeedsAt values all input output ns InStatements None own holding some × AreDeedsAt values all input output ns (InBranches a) None others lacking rest
     × (d ≡ Choice (Holds (joined_test waiting t)) holding lacking Nothing) × (many ≡ some + rest)))
 
 -- What a passage of statements comes to where the counters round it have these numbers, and to how many statements.
-abbrev pub AreDeeds : List Candidate → Forest Resolved → Forest Resolved → List Counted → Passage → Deeds Test → ℕ → Type 0
-AreDeeds all input output ns p d many = AreDeedsAt all input output ns InStatements None p d many
+abbrev pub AreDeeds : List (Bearer ValuedEntry) → List Candidate → Forest Resolved → Forest Resolved → List Counted → Passage → Deeds Test → ℕ → Type 0
+AreDeeds values all input output ns p d many = AreDeedsAt values all input output ns InStatements None p d many
 
 -- ---- how much is read
 
@@ -113,42 +115,42 @@ ComeFirstInLoop all ns l (ToItem ws) whole part many = (t : Past) × (i own : �
     × part i own × (many ≡ count_of_turns count 1 (i - l.from) l.from + own)
 
 -- So many statements come first in what is read, where the counters round it have these numbers: before the first thing that has no meaning, if there is one.
-abbrev pub ComeFirstAt : List Candidate → Forest Resolved → Forest Resolved → List Counted → Standing → Passage → ℕ → Type 0
-ComeFirstAt all input output ns at NoMore many = many ≡ 0
-ComeFirstAt all input output ns InStatements (Moves own more) many =
+abbrev pub ComeFirstAt : List (Bearer ValuedEntry) → List Candidate → Forest Resolved → Forest Resolved → List Counted → Standing → Passage → ℕ → Type 0
+ComeFirstAt values all input output ns at NoMore many = many ≡ 0
+ComeFirstAt values all input output ns InStatements (Moves own more) many =
     (many ≡ 0)
-    ⊎ ((ms : List Move) × (count rest : ℕ) × IsRunMeant input output (in_turn ns false 0 own) ms count × ComeFirstAt all input output ns InStatements more rest × (many ≡ count + rest))
-ComeFirstAt all input output ns InStatements (Pause more) many = ComeFirstAt all input output ns InStatements more many
-ComeFirstAt all input output ns InStatements (ALoop l body more) many =
+    ⊎ ((ms : List Move) × (count rest : ℕ) × IsRunMeant input output (in_turn ns false 0 own) ms count × ComeFirstAt values all input output ns InStatements more rest × (many ≡ count + rest))
+ComeFirstAt values all input output ns InStatements (Pause more) many = ComeFirstAt values all input output ns InStatements more many
+ComeFirstAt values all input output ns InStatements (ALoop l body more) many =
     (many ≡ 0)
-    ⊎ (ComeFirstInLoop all ns l l.bound (λ i c. (d : Deeds Test) × AreDeeds all input output (ns ++ counter_at l i ∷ []) body d c) (λ i c. ComeFirstAt all input output (ns ++ counter_at l i ∷ []) InStatements body c) many
+    ⊎ (ComeFirstInLoop all ns l l.bound (λ i c. (d : Deeds Test) × AreDeeds values all input output (ns ++ counter_at l i ∷ []) body d c) (λ i c. ComeFirstAt values all input output (ns ++ counter_at l i ∷ []) InStatements body c) many
     ⊎ ((f : ℕ → Deeds Test) × (count : ℕ → ℕ) × (own : Deeds Test) × (turned rest : ℕ)
-    × IsLoopOf all ns l l.bound (λ i e c. AreDeeds all input output (ns ++ counter_at l i ∷ []) body e c) f count own turned
-    × ComeFirstAt all input output ns InStatements more rest × (many ≡ turned + rest)))
-ComeFirstAt all input output ns InStatements (AChoice c branches more) many =
+    × IsLoopOf all ns l l.bound (λ i e c. AreDeeds values all input output (ns ++ counter_at l i ∷ []) body e c) f count own turned
+    × ComeFirstAt values all input output ns InStatements more rest × (many ≡ turned + rest)))
+ComeFirstAt values all input output ns InStatements (AChoice c branches more) many =
     (many ≡ 0)
-    ⊎ (((a : Against) × (inside : ℕ) × IsSubjectOf (record { input = input; output = output }) ns c a × ComeFirstAt all input output ns (InBranches a) branches inside × (many ≡ 1 + inside))
+    ⊎ (((a : Against) × (inside : ℕ) × IsSubjectOf (record { input = input; output = output }) ns c a × ComeFirstAt values all input output ns (InBranches a) branches inside × (many ≡ 1 + inside))
     ⊎ ((a : Against) × (own : Deeds Test) × (inside rest : ℕ) × IsSubjectOf (record { input = input; output = output }) ns c a
-    × AreDeedsAt all input output ns (InBranches a) None branches own inside × ComeFirstAt all input output ns InStatements more rest × (many ≡ 1 + inside + rest)))
-ComeFirstAt all input output ns InStatements (ABranch t own others) many = many ≡ 0
-ComeFirstAt all input output ns (InBranches a) (Moves own more) many = many ≡ 0
-ComeFirstAt all input output ns (InBranches a) (Pause more) many = many ≡ 0
-ComeFirstAt all input output ns (InBranches a) (ALoop l body more) many = many ≡ 0
-ComeFirstAt all input output ns (InBranches a) (AChoice c branches more) many = many ≡ 0
-ComeFirstAt all input output ns (InBranches a) (ABranch Otherwise own others) many = ComeFirstAt all input output ns InStatements own many
-ComeFirstAt all input output ns (InBranches a) (ABranch (Tested ws) own others) many =
+    × AreDeedsAt values all input output ns (InBranches a) None branches own inside × ComeFirstAt values all input output ns InStatements more rest × (many ≡ 1 + inside + rest)))
+ComeFirstAt values all input output ns InStatements (ABranch t own others) many = many ≡ 0
+ComeFirstAt values all input output ns (InBranches a) (Moves own more) many = many ≡ 0
+ComeFirstAt values all input output ns (InBranches a) (Pause more) many = many ≡ 0
+ComeFirstAt values all input output ns (InBranches a) (ALoop l body more) many = many ≡ 0
+ComeFirstAt values all input output ns (InBranches a) (AChoice c branches more) many = many ≡ 0
+ComeFirstAt values all input output ns (InBranches a) (ABranch Otherwise own others) many = ComeFirstAt values all input output ns InStatements own many
+ComeFirstAt values all input output ns (InBranches a) (ABranch (Tested ws) own others) many =
     (many ≡ 0)
-    ⊎ ((t : Condition) × IsBranchTestOf (record { input = input; output = output }) ns a ws t
-    × (ComeFirstAt all input output ns InStatements own many
-    ⊎ ((holding : Deeds Test) × (some rest : ℕ) × AreDeeds all input output ns own holding some × ComeFirstAt all input output ns (InBranches a) others rest × (many ≡ some + rest))))
+    ⊎ ((t : Condition) × IsBranchTestOf (record { input = input; output = output }) values ns a ws t
+    × (ComeFirstAt values all input output ns InStatements own many
+    ⊎ ((holding : Deeds Test) × (some rest : ℕ) × AreDeeds values all input output ns own holding some × ComeFirstAt values all input output ns (InBranches a) others rest × (many ≡ some + rest))))
 
 -- the same in a passage of statements
-abbrev pub ComeFirst : List Candidate → Forest Resolved → Forest Resolved → List Counted → Passage → ℕ → Type 0
-ComeFirst all input output ns p many = ComeFirstAt all input output ns InStatements p many
+abbrev pub ComeFirst : List (Bearer ValuedEntry) → List Candidate → Forest Resolved → Forest Resolved → List Counted → Passage → ℕ → Type 0
+ComeFirst values all input output ns p many = ComeFirstAt values all input output ns InStatements p many
 
 -- M12: however far a passage with loops to items is read, it comes to few statements
-abbrev pub IsFewRead : List Candidate → Forest Resolved → Forest Resolved → Passage → Type 0
-IsFewRead all input output p = (many : ℕ) → ComeFirst all input output [] p many → many ≤ most_written_out
+abbrev pub IsFewRead : List (Bearer ValuedEntry) → List Candidate → Forest Resolved → Forest Resolved → Passage → Type 0
+IsFewRead values all input output p = (many : ℕ) → ComeFirst values all input output [] p many → many ≤ most_written_out
 
 -- ---- what refuses a passage in a turn
 
@@ -174,28 +176,28 @@ IsLoopRefused f all ns l (ToItem ws) refused meant =
 
 -- What is read is refused where the counters round it have these numbers: words of MOVE statements in it are, or a loop is, or what stands before the branches of a
 -- choice, on its line, or the test of a branch, on the line of the test.
-abbrev pub IsTurnRefusedAt : MoveFault → List Candidate → Forest Resolved → Forest Resolved → List Counted → Standing → Passage → Type 0
-IsTurnRefusedAt f all input output ns at NoMore = ⊥
-IsTurnRefusedAt f all input output ns InStatements (Moves own more) = RunIsRefused f all input output (in_turn ns false 0 own) ⊎ IsTurnRefusedAt f all input output ns InStatements more
-IsTurnRefusedAt f all input output ns InStatements (Pause more) = IsTurnRefusedAt f all input output ns InStatements more
-IsTurnRefusedAt f all input output ns InStatements (ALoop l body more) =
-    IsLoopRefused f all ns l l.bound (λ i. IsTurnRefusedAt f all input output (ns ++ counter_at l i ∷ []) InStatements body)
-    (λ i. (d : Deeds Test) × (c : ℕ) × AreDeeds all input output (ns ++ counter_at l i ∷ []) body d c)
-    ⊎ IsTurnRefusedAt f all input output ns InStatements more
-IsTurnRefusedAt f all input output ns InStatements (AChoice c branches more) =
+abbrev pub IsTurnRefusedAt : List (Bearer ValuedEntry) → MoveFault → List Candidate → Forest Resolved → Forest Resolved → List Counted → Standing → Passage → Type 0
+IsTurnRefusedAt values f all input output ns at NoMore = ⊥
+IsTurnRefusedAt values f all input output ns InStatements (Moves own more) = RunIsRefused f all input output (in_turn ns false 0 own) ⊎ IsTurnRefusedAt values f all input output ns InStatements more
+IsTurnRefusedAt values f all input output ns InStatements (Pause more) = IsTurnRefusedAt values f all input output ns InStatements more
+IsTurnRefusedAt values f all input output ns InStatements (ALoop l body more) =
+    IsLoopRefused f all ns l l.bound (λ i. IsTurnRefusedAt values f all input output (ns ++ counter_at l i ∷ []) InStatements body)
+    (λ i. (d : Deeds Test) × (c : ℕ) × AreDeeds values all input output (ns ++ counter_at l i ∷ []) body d c)
+    ⊎ IsTurnRefusedAt values f all input output ns InStatements more
+IsTurnRefusedAt values f all input output ns InStatements (AChoice c branches more) =
     ((BreaksSubject f.rule (record { input = input; output = output }) ns c × (f.line ≡ line_of c))
-    ⊎ ((a : Against) × IsSubjectOf (record { input = input; output = output }) ns c a × IsTurnRefusedAt f all input output ns (InBranches a) branches))
-    ⊎ IsTurnRefusedAt f all input output ns InStatements more
-IsTurnRefusedAt f all input output ns InStatements (ABranch t own others) = IsTurnRefusedAt f all input output ns InStatements others
-IsTurnRefusedAt f all input output ns (InBranches a) (Moves own more) = ⊥
-IsTurnRefusedAt f all input output ns (InBranches a) (Pause more) = ⊥
-IsTurnRefusedAt f all input output ns (InBranches a) (ALoop l body more) = ⊥
-IsTurnRefusedAt f all input output ns (InBranches a) (AChoice c branches more) = ⊥
-IsTurnRefusedAt f all input output ns (InBranches a) (ABranch Otherwise own others) = IsTurnRefusedAt f all input output ns InStatements own
-IsTurnRefusedAt f all input output ns (InBranches a) (ABranch (Tested ws) own others) =
-    (BreaksBranchTest f.rule (record { input = input; output = output }) ns a ws × (f.line ≡ first_line ws))
-    ⊎ (IsTurnRefusedAt f all input output ns InStatements own ⊎ IsTurnRefusedAt f all input output ns (InBranches a) others)
+    ⊎ ((a : Against) × IsSubjectOf (record { input = input; output = output }) ns c a × IsTurnRefusedAt values f all input output ns (InBranches a) branches))
+    ⊎ IsTurnRefusedAt values f all input output ns InStatements more
+IsTurnRefusedAt values f all input output ns InStatements (ABranch t own others) = IsTurnRefusedAt values f all input output ns InStatements others
+IsTurnRefusedAt values f all input output ns (InBranches a) (Moves own more) = ⊥
+IsTurnRefusedAt values f all input output ns (InBranches a) (Pause more) = ⊥
+IsTurnRefusedAt values f all input output ns (InBranches a) (ALoop l body more) = ⊥
+IsTurnRefusedAt values f all input output ns (InBranches a) (AChoice c branches more) = ⊥
+IsTurnRefusedAt values f all input output ns (InBranches a) (ABranch Otherwise own others) = IsTurnRefusedAt values f all input output ns InStatements own
+IsTurnRefusedAt values f all input output ns (InBranches a) (ABranch (Tested ws) own others) =
+    (BreaksBranchTest f.rule (record { input = input; output = output }) values ns a ws × (f.line ≡ first_line ws))
+    ⊎ (IsTurnRefusedAt values f all input output ns InStatements own ⊎ IsTurnRefusedAt values f all input output ns (InBranches a) others)
 
 -- a passage of statements is
-abbrev pub IsTurnRefused : MoveFault → List Candidate → Forest Resolved → Forest Resolved → List Counted → Passage → Type 0
-IsTurnRefused f all input output ns p = IsTurnRefusedAt f all input output ns InStatements p
+abbrev pub IsTurnRefused : List (Bearer ValuedEntry) → MoveFault → List Candidate → Forest Resolved → Forest Resolved → List Counted → Passage → Type 0
+IsTurnRefused values f all input output ns p = IsTurnRefusedAt values f all input output ns InStatements p

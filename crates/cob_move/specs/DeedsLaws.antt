@@ -11,6 +11,8 @@ use Rattle.cob_move_loops.specs.Turns.{Counted}
 use Rattle.cob_move_names.specs.Candidates.{Candidate, all_entries}
 use Rattle.cob_move_statements.specs.declared.fault.MoveFault.{MoveFault}
 use Rattle.cob_move_statements.specs.declared.fault.MoveRule.TheVariants.{Memory}
+use Rattle.cob_copybook_names.specs.Naming.{Bearer}
+use Rattle.cob_move_names.specs.Valued.{ValuedEntry}
 use Rattle.cob_move.specs.Deeds.{AreDeeds, IsTurnRefused}
 use Rattle.cob_move.specs.Joined.{joined_deeds}
 
@@ -22,10 +24,10 @@ JoinedIsBoth = (r : Records) (d next : Deeds Test) (input before : List ℕ) (en
 
 -- Law: in a turn a passage comes to one thing at most, and to so many statements.
 abbrev pub OneDeeds : Type 0
-OneDeeds = (all : List Candidate) (input output : Forest Resolved) (ns : List Counted) (p : Passage) (d e : Deeds Test) (m n : ℕ)
-    → AreDeeds all input output ns p d m → AreDeeds all input output ns p e n → (d ≡ e) × (m ≡ n)
+OneDeeds = (values : List (Bearer ValuedEntry)) (all : List Candidate) (input output : Forest Resolved) (ns : List Counted) (p : Passage) (d e : Deeds Test) (m n : ℕ)
+    → AreDeeds values all input output ns p d m → AreDeeds values all input output ns p e n → (d ≡ e) × (m ≡ n)
 
 -- Law: a passage that comes to something breaks no rule; it is refused for want of memory alone.
 abbrev pub DeedsBreakNoRule : Type 0
-DeedsBreakNoRule = (f : MoveFault) (input output : Forest Resolved) (ns : List Counted) (p : Passage) (d : Deeds Test) (m : ℕ)
-    → AreDeeds (all_entries input output) input output ns p d m → IsTurnRefused f (all_entries input output) input output ns p → f.rule ≡ Memory
+DeedsBreakNoRule = (values : List (Bearer ValuedEntry)) (f : MoveFault) (input output : Forest Resolved) (ns : List Counted) (p : Passage) (d : Deeds Test) (m : ℕ)
+    → AreDeeds values (all_entries input output) input output ns p d m → IsTurnRefused values f (all_entries input output) input output ns p → f.rule ≡ Memory

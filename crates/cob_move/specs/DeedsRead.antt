@@ -46,7 +46,7 @@ use Rattle.cob_move.specs.declared.made.NotRead.TheVariants as why
 use Rattle.cob_move.specs.declared.made.Sizes.{Sizes}
 use Rattle.cob_move_tests.specs.declared.entries.Entries.{Entries}
 use Rattle.cob_move_tests.specs.declared.entries.NamedEntry.{NamedEntry}
-use Rattle.cob_move_tests.specs.Entries.{NamesAmong, nameable, records_of}
+use Rattle.cob_move_tests.specs.Entries.{NamesAmong, nameable, records_of, valued_in}
 use Rattle.cob_move.specs.Deeds.{AreDeeds, AreDeedsAt, ComeFirst, ComeFirstAt, ComeFirstInLoop, InBranches, IsBoundRefusal, IsLoopOf, IsLoopRefused, IsRunMeant, IsTurnRefused, IsTurnRefusedAt, count_of_turns}
 use Rattle.cob_move.specs.Joined.{joined_deeds}
 use Rattle.cob_move.specs.Loops.{HasJudged}
@@ -242,7 +242,7 @@ RunComesTo e ns own d many = (ms : List Move) × IsRunMeant e.input.now e.output
 
 -- a passage, in a turn, comes to these deeds
 abbrev pub PassageComesTo : Entries → List Counted → Passage → Deeds Test → ℕ → Type 0
-PassageComesTo e ns p d many = AreDeeds (nameable e) e.input.now e.output.now ns p d many
+PassageComesTo e ns p d many = AreDeeds (valued_in e) (nameable e) e.input.now e.output.now ns p d many
 
 -- the counters round a turn of a loop, and its own with this number
 abbrev pub in_its_turn : List Counted → WrittenLoop → ℕ → List Counted
@@ -255,7 +255,7 @@ LoopComesTo e ns l p d many = (f : ℕ → Deeds Test) × (count : ℕ → ℕ)
 
 -- branches of a choice, behind WHENs whose statements are theirs and whose tests mean this, come to them
 abbrev pub BranchesComeTo : Entries → List Counted → Against → Option Meant → Passage → Deeds Test → ℕ → Type 0
-BranchesComeTo e ns a waiting p d many = AreDeedsAt (nameable e) e.input.now e.output.now ns (InBranches a) waiting p d many
+BranchesComeTo e ns a waiting p d many = AreDeedsAt (valued_in e) (nameable e) e.input.now e.output.now ns (InBranches a) waiting p d many
 
 -- a choice with these branches comes to them
 abbrev pub ChoiceComesTo : Entries → List Counted → WrittenChoice → Passage → Deeds Test → ℕ → Type 0
@@ -275,7 +275,7 @@ RunRefusedIn f e ns own = RunIsRefused f (nameable e) e.input.now e.output.now (
 
 -- a passage is refused in a turn
 abbrev pub IsRefusedIn : MoveFault → Entries → List Counted → Passage → Type 0
-IsRefusedIn f e ns p = IsTurnRefused f (nameable e) e.input.now e.output.now ns p
+IsRefusedIn f e ns p = IsTurnRefused (valued_in e) f (nameable e) e.input.now e.output.now ns p
 
 -- a loop with this passage is refused
 abbrev pub LoopIsRefused : MoveFault → Entries → List Counted → WrittenLoop → Passage → Type 0
@@ -285,7 +285,7 @@ LoopIsRefused f e ns l p =
 
 -- branches of a choice are refused
 abbrev pub BranchesAreRefused : MoveFault → Entries → List Counted → Against → Passage → Type 0
-BranchesAreRefused f e ns a p = IsTurnRefusedAt f (nameable e) e.input.now e.output.now ns (InBranches a) p
+BranchesAreRefused f e ns a p = IsTurnRefusedAt (valued_in e) f (nameable e) e.input.now e.output.now ns (InBranches a) p
 
 -- a choice with these branches is refused
 abbrev pub ChoiceIsRefused : MoveFault → Entries → List Counted → WrittenChoice → Passage → Type 0
@@ -303,7 +303,7 @@ FrontIsRefused f e ns (Branched t own) p = ⊥
 
 -- so many statements come first in a passage
 abbrev pub FirstIn : Entries → List Counted → Passage → ℕ → Type 0
-FirstIn e ns p many = ComeFirst (nameable e) e.input.now e.output.now ns p many
+FirstIn e ns p many = ComeFirst (valued_in e) (nameable e) e.input.now e.output.now ns p many
 
 -- in words of MOVE statements
 abbrev pub FirstInRun : Entries → List Counted → List Lexeme → ℕ → Type 0
@@ -328,7 +328,7 @@ FirstBelow e ns l p behind many = (i own : ℕ) × (count : ℕ → ℕ)
 
 -- in branches of a choice
 abbrev pub FirstInBranches : Entries → List Counted → Against → Passage → ℕ → Type 0
-FirstInBranches e ns a p many = ComeFirstAt (nameable e) e.input.now e.output.now ns (InBranches a) p many
+FirstInBranches e ns a p many = ComeFirstAt (valued_in e) (nameable e) e.input.now e.output.now ns (InBranches a) p many
 
 -- in a choice with these branches
 abbrev pub FirstInChoice : Entries → List Counted → WrittenChoice → Passage → ℕ → Type 0
@@ -620,7 +620,7 @@ SubjectNotRead (why.Broken f) e ns c = ((f.rule ≡ rule.Memory) → ⊥) × Bre
 abbrev pub TestNotRead : NotRead → Entries → List Counted → Against → List Lexeme → Type 0
 TestNotRead why.Memory e ns a ws = Unit {0}
 TestNotRead why.TooMany e ns a ws = ⊥
-TestNotRead (why.Broken f) e ns a ws = ((f.rule ≡ rule.Memory) → ⊥) × BreaksBranchTest f.rule (records_of e) ns a ws × (f.line ≡ first_line ws)
+TestNotRead (why.Broken f) e ns a ws = ((f.rule ≡ rule.Memory) → ⊥) × BreaksBranchTest f.rule (records_of e) (valued_in e) ns a ws × (f.line ≡ first_line ws)
 
 -- Words are read behind what was made before, into flows of their own: a mark stands behind them.
 pub record ReadsApart (e : Entries) (ns : List Counted) (words : List Lexeme) (own : List Flow) (old new : MadeLists) : Type 0 where
@@ -695,11 +695,11 @@ pub record SaysDeeds (e : Entries) (body : List Lexeme) (d : Deeds Test) : Type 
   pub bounded : AreBounded judged.passage
   pub many : ℕ
   pub comes : PassageComesTo e [] judged.passage d many
-  pub few : ComesToFew (nameable e) e.input.now e.output.now judged.passage
+  pub few : ComesToFew (valued_in e) (nameable e) e.input.now e.output.now judged.passage
 
 -- They are refused.
 abbrev pub DeedsRefused : MoveFault → Entries → List Lexeme → Type 0
-DeedsRefused f e body = IsBodyRefusal f (nameable e) e.input.now e.output.now body
+DeedsRefused f e body = IsBodyRefusal (valued_in e) f (nameable e) e.input.now e.output.now body
 
 -- whatever passage words are, it has a loop to an item, or a choice
 abbrev pub HasTests : List Lexeme → Type 0

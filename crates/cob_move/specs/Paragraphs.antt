@@ -9,7 +9,9 @@ use Rattle.cob_move_loops.specs.Bounded.{AreBounded, LacksBound}
 use Rattle.cob_move_loops.specs.Few.{opening_line}
 use Rattle.cob_move_loops.specs.Passages.{ABranch, AChoice, ALoop, IsPassage, Moves, NoMore, Passage, Pause, ToItem, ToNumber, WrittenBound}
 use Rattle.cob_move_loops.specs.Turns.{words_by_turn}
+use Rattle.cob_copybook_names.specs.Naming.{Bearer}
 use Rattle.cob_move_names.specs.Candidates.{Candidate, all_entries}
+use Rattle.cob_move_names.specs.Valued.{PlainConditionNames, ValuedEntry, all_values}
 use Rattle.cob_move_statements.specs.declared.fault.MoveFault.{MoveFault}
 use Rattle.cob_move_statements.specs.declared.fault.MoveRule.{MoveRule}
 use Rattle.cob_move_statements.specs.declared.fault.MoveRule.TheVariants as rule
@@ -50,14 +52,14 @@ IsLiteral (AChoice c branches more) = ⊥
 IsLiteral (ABranch t own others) = ⊥
 
 -- M12: a passage with loops to items or choices comes to few statements, however far it is read
-abbrev pub ComesToFew : List Candidate → Forest Resolved → Forest Resolved → Passage → Type 0
-ComesToFew all input output p = (IsLiteral p → ⊥) → IsFewRead all input output p
+abbrev pub ComesToFew : List (Bearer ValuedEntry) → List Candidate → Forest Resolved → Forest Resolved → Passage → Type 0
+ComesToFew values all input output p = (IsLiteral p → ⊥) → IsFewRead values all input output p
 
 -- ---- what a text does
 
--- The words of the text are a passage, with loops and choices as they may be: each loop has a counter of its own, and one to an item has a table that bounds it
+-- The words of the text, whose records have these condition-names, are a passage, with loops and choices as they may be: each loop has a counter of its own, and one to an item has a table that bounds it
 -- (M11). It comes to these deeds between the two records: moves in their order, and tests of loops to items and of choices between them.
-pub record IsParagraphOf (text : List ℕ) (input output : Forest Resolved) (d : Deeds Test) : Type 0 where
+pub record IsParagraphOf (text : List ℕ) (input output : Forest Resolved) (names : PlainConditionNames) (d : Deeds Test) : Type 0 where
   pub words : List Lexeme
   pub passage : Passage
   pub many : ℕ
@@ -65,8 +67,8 @@ pub record IsParagraphOf (text : List ℕ) (input output : Forest Resolved) (d :
   pub has : HasPassage words passage
   pub counters : AreCounters (all_entries input output) passage
   pub bounded : AreBounded passage
-  pub comes : AreDeeds (all_entries input output) input output [] passage d many
-  pub few : ComesToFew (all_entries input output) input output passage
+  pub comes : AreDeeds (all_values input output names) (all_entries input output) input output [] passage d many
+  pub few : ComesToFew (all_values input output names) (all_entries input output) input output passage
 
 -- What a text says whose loops all end by numbers, without choices: written out, its runs spell statements, and these mean the moves between two records, in their order.
 pub record IsLiteralParagraphOf (text : List ℕ) (input output : Forest Resolved) (ms : List Move) : Type 0 where
@@ -97,17 +99,17 @@ AreDone ms d = (d ≡ Moving ms Nothing) ⊎ ((d ≡ Nothing) × (ms ≡ []))
 -- A passage is refused: a loop to an item has no table that bounds it (M11), on its line; or, where there is such a loop or a choice, too many statements come
 -- first (M12), on the line of the first loop or choice; or words of MOVE statements, of a bound or of a test break a rule in a turn, or nothing bounds a loop to
 -- an item.
-abbrev pub PassageRefused : MoveFault → List Candidate → Forest Resolved → Forest Resolved → List Lexeme → Passage → Type 0
-PassageRefused f all input output body p =
+abbrev pub PassageRefused : List (Bearer ValuedEntry) → MoveFault → List Candidate → Forest Resolved → Forest Resolved → List Lexeme → Passage → Type 0
+PassageRefused values f all input output body p =
     ((f.rule ≡ rule.Counter) × LacksBound p f.line)
-    ⊎ (((f.rule ≡ rule.TooMany) × (f.line ≡ opening_line body) × (IsLiteral p → ⊥) × ((many : ℕ) × ComeFirst all input output [] p many × (most_written_out < many)))
-    ⊎ IsTurnRefused f all input output [] p)
+    ⊎ (((f.rule ≡ rule.TooMany) × (f.line ≡ opening_line body) × (IsLiteral p → ⊥) × ((many : ℕ) × ComeFirst values all input output [] p many × (most_written_out < many)))
+    ⊎ IsTurnRefused values f all input output [] p)
 
 -- The words behind the heading are refused: they break a rule of passages; or they are one, and it is refused.
-abbrev pub IsBodyRefusal : MoveFault → List Candidate → Forest Resolved → Forest Resolved → List Lexeme → Type 0
-IsBodyRefusal f all input output body =
+abbrev pub IsBodyRefusal : List (Bearer ValuedEntry) → MoveFault → List Candidate → Forest Resolved → Forest Resolved → List Lexeme → Type 0
+IsBodyRefusal values f all input output body =
     IsPassageRefusal f.rule f.line all body
-    ⊎ ((p : Passage) × IsPassage p body × PassageRefused f all input output body p)
+    ⊎ ((p : Passage) × IsPassage p body × PassageRefused values f all input output body p)
 
 -- The text breaks a rule of the reference format on this line; refused memory has line 0.
 abbrev pub BreaksFormat : MoveRule → ℕ → List ℕ → Type 0
@@ -116,16 +118,16 @@ BreaksFormat rule.Memory line text = line ≡ 0
 BreaksFormat other line text = ⊥
 
 -- the words of the text, behind their heading, are refused
-pub record BreaksParagraphWords (f : MoveFault) (text : List ℕ) (input output : Forest Resolved) : Type 0 where
+pub record BreaksParagraphWords (f : MoveFault) (text : List ℕ) (input output : Forest Resolved) (names : PlainConditionNames) : Type 0 where
   pub words : List Lexeme
   pub body : List Lexeme
   pub are_words : AreParagraphWordsOf text words
   pub is_body : IsBodyIn words body
-  pub refused : IsBodyRefusal f (all_entries input output) input output body
+  pub refused : IsBodyRefusal (all_values input output names) f (all_entries input output) input output body
 
 -- A refusal names a rule that is broken: by the text, by its words, or by one of its statements.
-abbrev pub IsRefusalOf : MoveFault → List ℕ → Forest Resolved → Forest Resolved → Type 0
-IsRefusalOf f text input output = BreaksFormat f.rule f.line text ⊎ BreaksParagraphWords f text input output
+abbrev pub IsRefusalOf : MoveFault → List ℕ → Forest Resolved → Forest Resolved → PlainConditionNames → Type 0
+IsRefusalOf f text input output names = BreaksFormat f.rule f.line text ⊎ BreaksParagraphWords f text input output names
 
 -- ---- paragraphs that are read
 

@@ -13,7 +13,7 @@ ghost use Rattle.cob_move_loops.specs.declared.parts.Place.TheVariants.{Branches
 ghost use Rattle.cob_move_loops.specs.Passages.{Branched, FrontAt, IsPassage, Passage, PassageFront};
 ghost use Rattle.cob_move_loops.specs.Reading.{Within, counters, item_front, written_choice, written_test};
 ghost use Rattle.cob_source.specs.Tokens.{Lexeme, lexemes};
-ghost use Rattle.cob_move_tests.specs.Entries.{AllMayBeNamed, records_of};
+ghost use Rattle.cob_move_tests.specs.Entries.{AllMayBeNamed, records_of, valued_in};
 ghost use Rattle.cob_move.specs.DeedsRead.{MayBeTestedOr, SubjectNotRead, TestNotRead, choice_in_front, made_lists, with_asked, with_one_more};
 ghost use Rattle.cob_move.specs.Paragraphs.{has_choice};
 ghost use Rattle.cob_move.specs.declared.made.NotRead.TheVariants as unread;
@@ -126,7 +126,7 @@ pub(crate) fn read_test(
     requires named { AllMayBeNamed entries.now }
     requires there { IsSubjectAsked made.old.asked.items subject }
     requires operands { AllByRecursion (IsSubscriptedEntry (records_of entries.now)) made.old.asked.items }
-    ensures found { IfOk result (λ c. IsBranchTestOf (records_of entries.now) (counters turn.now)
+    ensures found { IfOk result (λ c. IsBranchTestOf (records_of entries.now) (valued_in entries.now) (counters turn.now)
         (against (sender_named (records_of entries.now) made.old.asked.items) subject)
         (lexemes words.now)
         (condition_of (sender_named (records_of entries.now) made.new.asked.items) c)) }

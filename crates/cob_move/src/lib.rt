@@ -74,7 +74,7 @@ pub use cob_layout::Layout;
 pub use cob_move_apply::{Moves, Scratch, Stop, StopCause};
 pub use cob_move_data::{Side, StatementMoves};
 pub use cob_move_initial::{initial, one_initial};
-pub use cob_move_names::pairs;
+pub use cob_move_names::{ConditionNames, pairs};
 pub use cob_move_statements::{MoveFault, MoveRule};
 pub use deeds_laws::{deeds_break_no_rule, joined_is_both, one_deeds};
 pub use laws::{

@@ -13,6 +13,7 @@ ghost use Rattle.cob_move_deeds.specs.Flows.{deeds_by};
 ghost use Rattle.cob_move_deeds.specs.Met.{DeedsHaveMet};
 ghost use Rattle.cob_move_deeds.specs.Prepared.{deeds_of};
 ghost use Rattle.cob_move_deeds.specs.Tests.{Judged, Test};
+ghost use Rattle.cob_move_names.specs.Valued.{plain_names};
 ghost use Rattle.cob_move_statements.specs.Reading.{IsOrLacksMemory};
 ghost use Rattle.cob_source.specs.Tokens.{lexemes};
 ghost use Rattle.cob_source.specs.Words.{AreParagraphWordsOf};
@@ -30,7 +31,7 @@ use cob_codec::Reading;
 use cob_layout::Layout;
 use cob_move_apply::{Scratch, Stop};
 use cob_move_deeds::ReadyDeeds;
-use cob_move_names::{Correspondences, Names};
+use cob_move_names::{ConditionNames, Correspondences, Names};
 use cob_move_statements::MoveFault;
 use cob_move_tests::Entries;
 use cob_source::{Token, paragraph_tokens};
@@ -71,19 +72,20 @@ fn deeds_of_words(
     alloc: Global,
     input: &Layout,
     output: &Layout,
+    names: ConditionNames<'_>,
     words: &[Token],
 ) -> Result<ReadyDeeds, MoveFault>
     ensures found { IfOk result (λ d. (text : List ℕ)
         → AreParagraphWordsOf text (lexemes words.now)
-        → IsParagraphOf text input.now output.now (deeds_of (both input.now output.now) d)) }
+        → IsParagraphOf text input.now output.now (plain_names names.entry) (deeds_of (both input.now output.now) d)) }
     ensures ready { IfOk result (AreReady (both input.now output.now)) }
     ensures fault { IfErr result (λ f. (text : List ℕ)
         → AreParagraphWordsOf text (lexemes words.now)
-        → IsRefusalOf f text input.now output.now) }
+        → IsRefusalOf f text input.now output.now (plain_names names.entry)) }
 {
-    let names = Names::of(alloc, input, output)?;
+    let nameable = Names::with_conditions(alloc, input, output, names)?;
     let entries = Entries {
-        names: &names,
+        names: &nameable,
         input,
         output,
     };
@@ -101,15 +103,16 @@ fn deeds_of_whole(
     alloc: Global,
     input: &Layout,
     output: &Layout,
+    names: ConditionNames<'_>,
     text: &[u8],
 ) -> Result<ReadyDeeds, MoveFault>
     ensures found { IfOk result (λ d. IsParagraphOf text.now input.now output.now
-        (deeds_of (both input.now output.now) d)) }
+        (plain_names names.entry) (deeds_of (both input.now output.now) d)) }
     ensures ready { IfOk result (AreReady (both input.now output.now)) }
-    ensures fault { IfErr result (λ f. IsRefusalOf f text.now input.now output.now) }
+    ensures fault { IfErr result (λ f. IsRefusalOf f text.now input.now output.now (plain_names names.entry)) }
 {
     let words = paragraph_tokens(alloc, text)?;
-    deeds_of_words(alloc, input, output, words.as_slice())
+    deeds_of_words(alloc, input, output, names, words.as_slice())
 }
 
 /// What a text does between two records. It is read piece by piece, and where a piece isn't read alone, at once: so what is wrong is told of the whole.
@@ -121,12 +124,13 @@ fn deeds_of_text(
     alloc: Global,
     input: &Layout,
     output: &Layout,
+    names: ConditionNames<'_>,
     text: &[u8],
 ) -> Result<ReadyDeeds, MoveFault>
     ensures found { IfOk result (λ d. IsParagraphOf text.now input.now output.now
-        (deeds_of (both input.now output.now) d)) }
+        (plain_names names.entry) (deeds_of (both input.now output.now) d)) }
     ensures ready { IfOk result (AreReady (both input.now output.now)) }
-    ensures fault { IfErr result (λ f. IsRefusalOf f text.now input.now output.now) }
+    ensures fault { IfErr result (λ f. IsRefusalOf f text.now input.now output.now (plain_names names.entry)) }
 {
     // For what is made ready: what statements mean are moves between the records,
     meant_are_moves();
@@ -134,14 +138,14 @@ fn deeds_of_text(
     let _ = input.root();
     let _ = output.root();
     let Some(meant) = meant_in_pieces(alloc, input, output, text)? else {
-        return deeds_of_whole(alloc, input, output, text);
+        return deeds_of_whole(alloc, input, output, names, text);
     };
     let deeds = straight_deeds(alloc, meant, input, output)?;
     Ok(deeds)
 }
 
 impl Paragraph {
-    /// The paragraph that a text is, between the records of two layouts: the words of the text are MOVE statements, with loops round them, and come to moves in
+    /// The paragraph that a text is, between the records of two layouts, whose copybooks have these condition-names: the words of the text are MOVE statements, with loops round them, and come to moves in
     /// order, and to tests of loops to items between them. (ANSI X3.23-1985, Nucleus: the MOVE statement; the PERFORM statement, Format 4.)
     ///
     /// # Errors
@@ -151,23 +155,24 @@ impl Paragraph {
         alloc: Global,
         input: &Layout,
         output: &Layout,
+        names: ConditionNames<'_>,
         text: &[u8],
     ) -> Result<Paragraph, MoveFault>
         // What is read is what the text does.
         ensures found { IfOk result (λ p. IsParagraphOf text.now input.now output.now
-            (deeds_in (both input.now output.now) p)) }
+            (plain_names names.entry) (deeds_in (both input.now output.now) p)) }
         // It is ready for these records.
         ensures ready { IfOk result (λ p. IsReadyFor (both input.now output.now) p) }
         // A text that is a paragraph is read, memory aside.
-        ensures only { (d : Deeds Test) → IsParagraphOf text.now input.now output.now d
+        ensures only { (d : Deeds Test) → IsParagraphOf text.now input.now output.now (plain_names names.entry) d
             → IsOrLacksMemory (λ p. deeds_in (both input.now output.now) p ≡ d) result }
         // A refusal names a rule that is broken.
-        ensures fault { IfErr result (λ f. IsRefusalOf f text.now input.now output.now) }
+        ensures fault { IfErr result (λ f. IsRefusalOf f text.now input.now output.now (plain_names names.entry)) }
     {
         // For `only`: a text is one paragraph, and a paragraph breaks no rule.
         one_paragraph();
         paragraph_breaks_no_rule();
-        let deeds = deeds_of_text(alloc, input, output, text)?;
+        let deeds = deeds_of_text(alloc, input, output, names, text)?;
         Ok(Paragraph { deeds })
     }
 

@@ -8,6 +8,7 @@ pub mod SeenLemmas
 pub mod CountLemmas
 pub mod ReadingLemmas
 pub mod CutLemmas
+pub mod ByRuleLemmas
 pub mod InPlaceLemmas
 pub mod CopyLemmas
 pub mod PlainLemmas

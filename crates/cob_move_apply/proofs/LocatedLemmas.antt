@@ -1,8 +1,9 @@
 -- Single moves that are made ready wherever their items stand.
 use Rattle.std.proofs.Common.{◌≡◌, ℕ, ◌+◌, ◌-◌, ◌≤◌, Bool, true, false, List, [], ◌∷◌, ◌++◌, drop, get_or, length, replicate, refl, sym, ap, subst, ◌∙◌, arith, inl, inr, Option, Some, None}
 use Rattle.std.proofs.Math.Seq.{take-append_seam}
+use Rattle.cob_codec.specs.Readings.{KeepsZones}
 use Rattle.cob_codec.specs.declared.reading.Reading.{Reading}
-use Rattle.cob_codec.specs.declared.reading.Reading.TheVariants.{Pictured, Whole}
+use Rattle.cob_codec.specs.declared.reading.Reading.TheVariants.{AnyZones, Pictured, Whole, WholeAnyZones}
 use Rattle.cob_copybook_tree.specs.declared.node.Kind.{Kind}
 use Rattle.cob_copybook_tree.specs.Forests.{Forest}
 use Rattle.cob_copybook_tree.specs.Nodes.{Resolved}
@@ -79,17 +80,17 @@ located_ends side r x one p input before None stand received =
     inl (content_at side x (operand_in (record_of r side) one.sent) (storage_of side input before) p.from, (p.from, stand.sends, refl), inr (stop, inr (p.to, stand.receives, received, refl), refl))
 
 -- a step of the kinds of both where these stand
-made_there : (side : Side) (r : Records) (x : Reading) (steps : MoveSteps) (one : LocatedMove) (step : MoveStep) (p : MovePlaces) (input before : List ℕ) (end : Ending) → StandAt side r one input before p
+made_there : (side : Side) (r : Records) (x : Reading) (steps : MoveSteps) (one : LocatedMove) (step : MoveStep) (p : MovePlaces) (input before : List ℕ) (end : Ending) → KeepsZones x → StandAt side r one input before p
     → IsMoveStep steps (kinds_of (operand_in (record_of r side) one.sent).kind (operand_in r.output one.receiver).kind p.from p.to) step
     → IsMadeReady side (record { places = p; step = step }) steps (storage_of side input before) before end → IsMoved r (copied_move side x r one.sent one.receiver) input before end
-made_there side r x steps one step p input before end stand is made =
+made_there side r x steps one step p input before end keeps stand is made =
     let k : MoveKinds = kinds_of (operand_in (record_of r side) one.sent).kind (operand_in r.output one.receiver).kind p.from p.to in
     let (outcome, received, same) = made k is (record { sent = refl; received = refl }) in
-    subst (λ (e : Ending). IsMoved r (copied_move side x r one.sent one.receiver) input before e) (sym same) (located_ends side r x one p input before outcome stand (received x))
+    subst (λ (e : Ending). IsMoved r (copied_move side x r one.sent one.receiver) input before e) (sym same) (located_ends side r x one p input before outcome stand (received x keeps))
 
-pub made_always : (side : Side) (r : Records) (x : Reading) (steps : MoveSteps) (one : LocatedMove) (step : MoveStep) (p : MovePlaces) (input before : List ℕ) (end : Ending) → StandAt side r one input before p
+pub made_always : (side : Side) (r : Records) (x : Reading) (steps : MoveSteps) (one : LocatedMove) (step : MoveStep) (p : MovePlaces) (input before : List ℕ) (end : Ending) → KeepsZones x → StandAt side r one input before p
     → CarriesAnywhere steps (operand_in (record_of r side) one.sent).kind (operand_in r.output one.receiver).kind step → IsMadeReady side (record { places = p; step = step }) steps (storage_of side input before) before end → IsMoved r (copied_move side x r one.sent one.receiver) input before end
-made_always side r x steps one step p input before end stand carries made = made_there side r x steps one step p input before end stand (carries p.from.length p.to.length stand.sent stand.received) made
+made_always side r x steps one step p input before end keeps stand carries made = made_there side r x steps one step p input before end keeps stand (carries p.from.length p.to.length stand.sent stand.received) made
 
 -- the step of characters, of as many bytes as the sender has there
 abbrev pub characters_at : MovePlaces → Bool → MoveStep
@@ -103,11 +104,11 @@ characters_there side r steps one right p input before stand (gives, stands) = r
   between = record { gives = gives; count = refl; side = stands };
 }
 
-pub made_characters : (side : Side) (r : Records) (x : Reading) (steps : MoveSteps) (one : LocatedMove) (right : Bool) (p : MovePlaces) (input before : List ℕ) (end : Ending) → StandAt side r one input before p
+pub made_characters : (side : Side) (r : Records) (x : Reading) (steps : MoveSteps) (one : LocatedMove) (right : Bool) (p : MovePlaces) (input before : List ℕ) (end : Ending) → KeepsZones x → StandAt side r one input before p
     → GivesText (operand_in (record_of r side) one.sent).kind (operand_in r.output one.receiver).kind right → IsMadeReady side (record { places = p; step = characters_at p right }) steps (storage_of side input before) before end
     → IsMoved r (copied_move side x r one.sent one.receiver) input before end
-made_characters side r x steps one right p input before end stand gives made =
-    made_there side r x steps one (characters_at p right) p input before end stand (characters_there side r steps one right p input before stand gives) made
+made_characters side r x steps one right p input before end keeps stand gives made =
+    made_there side r x steps one (characters_at p right) p input before end keeps stand (characters_there side r steps one right p input before stand gives) made
 
 -- characters that stand in as many bytes stay as they are
 same_padded : (n : ℕ) (bytes : List ℕ) → length bytes ≡ n → bytes ≡ padded n bytes
@@ -126,7 +127,7 @@ made_by_copy steps step p input before after same reads copied k is places =
     let bytes : List ℕ = field_of p.from input in
     let long : length bytes ≡ k.received = as_long p.from input reads ∙ same ∙ sym places.received in (
       Some bytes,
-      λ reading. characters_received k.sender k.receiver reading k.received bytes bytes step.right is.between.gives is.between.side (λ left. same_padded k.received bytes long) (λ other. same_padded_left k.received bytes long),
+      λ reading keeps. characters_received k.sender k.receiver reading k.received bytes bytes step.right is.between.gives is.between.side (λ left. same_padded k.received bytes long) (λ other. same_padded_left k.received bytes long),
       ap done copied,
     )
 
@@ -153,6 +154,8 @@ carries_as steps pictured sender receiver s t same carries = subst (λ (u : Loca
 serves_pictured : (t : PicturedStep) (x : Reading) → serves (located_step.Pictured t) x ≡ true → x ≡ Pictured
 serves_pictured t Pictured so = refl
 serves_pictured t Whole so = cc
+serves_pictured t AnyZones so = cc
+serves_pictured t WholeAnyZones so = cc
 
 pub read_by_picture : (s : LocatedStep) (t : PicturedStep) (x : Reading) → s ≡ located_step.Pictured t → serves s x ≡ true → x ≡ Pictured
 read_by_picture s t x same so = serves_pictured t x (subst (λ (u : LocatedStep). serves u x ≡ true) same so)

@@ -121,11 +121,11 @@ IsAnswered p steps bytes n outcome = (k : MoveKinds) → IsMoveStep steps k p.st
 
 pub answered : (p : PreparedMove) (steps : MoveSteps) (input : List ℕ) (n : ℕ) (outcome : Option (List ℕ)) (k : MoveKinds) → p.places.from.offset + p.places.from.length ≤ length input → n ≡ p.places.to.length
     → IsAnswered p steps (take (p.places.from.offset + p.places.from.length) input) n outcome → IsMoveStep steps k p.step → HasPlaces p.places k → IsReceivedFrom p.places k input outcome
-answered p steps input n outcome k within size gets is has reading =
+answered p steps input n outcome k within size gets is has reading keeps =
     let bytes : List ℕ = take (p.places.from.offset + p.places.from.length) input in
     let same : last_bytes k.sent bytes ≡ field_of p.places.from input = ap (λ m. last_bytes m bytes) has.sent ∙ ends_there p.places.from input within in
     subst (λ (xs : List ℕ). Received (sent.Entry k.sender xs reading) k.receiver k.received outcome) same
-    (gets k is (omega (arith, has.sent, length-take-le (p.places.from.offset + p.places.from.length) input within)) (size ∙ sym has.received) reading)
+    (gets k is (omega (arith, has.sent, length-take-le (p.places.from.offset + p.places.from.length) input within)) (size ∙ sym has.received) reading keeps)
 
 pub made : (p : PreparedMove) (steps : MoveSteps) (input before new : List ℕ) (n : ℕ) (b : Bool) → p.places.from.offset + p.places.from.length ≤ length input → n ≡ p.places.to.length → b ≡ true
     → IsAnswered p steps (take (p.places.from.offset + p.places.from.length) input) n (outcome b new)

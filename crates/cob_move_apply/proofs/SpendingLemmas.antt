@@ -2,6 +2,7 @@
 use Rattle.std.proofs.Common.{◌≡◌, ℕ, ◌+◌, ◌*◌, ◌<◌, ◌≤◌, Bool, true, false, List, [], ◌∷◌, ◌++◌, ◌-◌, length, get_or, take, drop, map, refl, sym, ap, subst, ◌∙◌, append_assoc, append-nil, arith, inr, Ok, Err, Result, Option, Some, None}
 use Rattle.std.proofs.lemmas.List.{drop_all, drop_more, get_or_read}
 use Rattle.std.proofs.Math.Nat.{mul-add, mul_comm}
+use Rattle.cob_codec.specs.Readings.{KeepsZones}
 use Rattle.cob_codec.specs.declared.reading.Reading.{Reading}
 use Rattle.cob_codec.specs.declared.reading.Reading.TheVariants.{Pictured}
 use Rattle.cob_copybook_tree.specs.Forests.{Forest}
@@ -146,29 +147,29 @@ located_met side r x one p input before after (Some bytes) met stand received sa
 located_met side r x one p input before after None met stand received same meets ms rest h = absurd (stop_of after before _ same)
 
 there_spends : {A : Type 0} (side : Side) (r : Records) (x : Reading) (steps : MoveSteps) (one : LocatedMove) (step : MoveStep) (p : MovePlaces) (input before : List ℕ) (result : Result A Stop) (after : List ℕ) (old mid new : Survey)
-    → StandAt side r one input before p → IsMoveStep steps (kinds_of (operand_in (record_of r side) one.sent).kind (operand_in r.output one.receiver).kind p.from p.to) step
+    → KeepsZones x → StandAt side r one input before p → IsMoveStep steps (kinds_of (operand_in (record_of r side) one.sent).kind (operand_in r.output one.receiver).kind p.from p.to) step
     → IsMadeReady side (record { places = p; step = step }) steps (storage_of side input before) before (ending result after) → IsSpent r.output 0 old mid → WriteSpends r.output before p.to result mid new
     → MovesSpend r (copied_move side x r one.sent one.receiver ∷ []) input before result after old new
-there_spends side r x steps one step p input before (Ok a) after old mid new stand is made first (met, meets, then) =
+there_spends side r x steps one step p input before (Ok a) after old mid new keeps stand is made first (met, meets, then) =
     let k : MoveKinds = kinds_of (operand_in (record_of r side) one.sent).kind (operand_in r.output one.receiver).kind p.from p.to in
     let (outcome, received, same) = made k is (record { sent = refl; received = refl }) in
-    (met, located_met side r x one p input before after outcome met stand (received x) same meets, spent_behind r.output met old mid new first then)
-there_spends side r x steps one step p input before (Err stop) after old mid new stand is made first then =
+    (met, located_met side r x one p input before after outcome met stand (received x keeps) same meets, spent_behind r.output met old mid new first then)
+there_spends side r x steps one step p input before (Err stop) after old mid new keeps stand is made first then =
     stopped_spends r (copied_move side x r one.sent one.receiver ∷ []) input before old new (at_stop r.output 0 old new (spent_behind r.output 0 old mid new first then))
 
 pub always_spends : {A : Type 0} (side : Side) (r : Records) (x : Reading) (steps : MoveSteps) (one : LocatedMove) (step : MoveStep) (p : MovePlaces) (input before : List ℕ) (result : Result A Stop) (after : List ℕ) (old mid new : Survey)
-    → StandAt side r one input before p → CarriesAnywhere steps (operand_in (record_of r side) one.sent).kind (operand_in r.output one.receiver).kind step
+    → KeepsZones x → StandAt side r one input before p → CarriesAnywhere steps (operand_in (record_of r side) one.sent).kind (operand_in r.output one.receiver).kind step
     → IsMadeReady side (record { places = p; step = step }) steps (storage_of side input before) before (ending result after) → IsSpent r.output 0 old mid → WriteSpends r.output before p.to result mid new
     → MovesSpend r (copied_move side x r one.sent one.receiver ∷ []) input before result after old new
-always_spends side r x steps one step p input before result after old mid new stand carries made first then =
-    there_spends side r x steps one step p input before result after old mid new stand (carries p.from.length p.to.length stand.sent stand.received) made first then
+always_spends side r x steps one step p input before result after old mid new keeps stand carries made first then =
+    there_spends side r x steps one step p input before result after old mid new keeps stand (carries p.from.length p.to.length stand.sent stand.received) made first then
 
 pub characters_spend : {A : Type 0} (side : Side) (r : Records) (x : Reading) (steps : MoveSteps) (one : LocatedMove) (right : Bool) (p : MovePlaces) (input before : List ℕ) (result : Result A Stop) (after : List ℕ) (old mid new : Survey)
-    → StandAt side r one input before p → GivesText (operand_in (record_of r side) one.sent).kind (operand_in r.output one.receiver).kind right
+    → KeepsZones x → StandAt side r one input before p → GivesText (operand_in (record_of r side) one.sent).kind (operand_in r.output one.receiver).kind right
     → IsMadeReady side (record { places = p; step = characters_at p right }) steps (storage_of side input before) before (ending result after) → IsSpent r.output 0 old mid → WriteSpends r.output before p.to result mid new
     → MovesSpend r (copied_move side x r one.sent one.receiver ∷ []) input before result after old new
-characters_spend side r x steps one right p input before result after old mid new stand gives made first then =
-    there_spends side r x steps one (characters_at p right) p input before result after old mid new stand (characters_there side r steps one right p input before stand gives) made first then
+characters_spend side r x steps one right p input before result after old mid new keeps stand gives made first then =
+    there_spends side r x steps one (characters_at p right) p input before result after old mid new keeps stand (characters_there side r steps one right p input before stand gives) made first then
 
 pub pictured_spends : {A : Type 0} (r : Records) (x : Reading) (steps : PicturedSteps) (one : LocatedMove) (step : PicturedStep) (p : MovePlaces) (input before : List ℕ) (result : Result A Stop) (after : List ℕ) (old mid new : Survey)
     → x ≡ Pictured → StandAt In r one input before p → CarriesPictured steps (operand_in r.input one.sent).kind (operand_in r.output one.receiver).kind step
@@ -187,17 +188,17 @@ pictured_spends r x steps one step p input before (Err stop) after old mid new r
 
 -- between places that are the same in every storage
 pub prepared_spends : {A : Type 0} (side : Side) (x : Reading) (r : Records) (steps : MoveSteps) (p : PreparedMove) (own : List Move) (input before : List ℕ) (result : Result A Stop) (after : List ℕ) (old new : Survey)
-    → IsMadeReady side p steps (storage_of side input before) before (ending result after) → WriteSpends r.output before p.places.to result old new → IsPreparedMove side x r steps p own → MovesSpend r own input before result after old new
-prepared_spends side x r steps p own input before (Ok a) after old new made (met, meets, spent) (k, is, fixed) =
+    → KeepsZones x → IsMadeReady side p steps (storage_of side input before) before (ending result after) → WriteSpends r.output before p.places.to result old new → IsPreparedMove side x r steps p own → MovesSpend r own input before result after old new
+prepared_spends side x r steps p own input before (Ok a) after old new keeps made (met, meets, spent) (k, is, fixed) =
     let (outcome, received, same) = made k is fixed.places in
     let (bytes, some, written) = made_bytes side p.places before after outcome same in (
       met,
       λ ms rest h. fixed.meets input before bytes met rest ms
-          (subst (λ (o : Option (List ℕ)). Received (sent.Entry k.sender (field_of p.places.from (storage_of side input before)) x) k.receiver k.received o) some (received x)) meets
+          (subst (λ (o : Option (List ℕ)). Received (sent.Entry k.sender (field_of p.places.from (storage_of side input before)) x) k.receiver k.received o) some (received x keeps)) meets
           (subst (λ (b : List ℕ). HaveMet r ms input b rest) (sym written) h),
       spent,
     )
-prepared_spends side x r steps p own input before (Err stop) after old new made spent is = stopped_spends r own input before old new (at_stop r.output 0 old new spent)
+prepared_spends side x r steps p own input before (Err stop) after old new keeps made spent is = stopped_spends r own input before old new (at_stop r.output 0 old new spent)
 
 pub part_spends : {A : Type 0} (x : Reading) (r : Records) (given : List StatementMoves) (bases : List Basis) (steps : PicturedSteps) (q : PicturedMove) (p : Part) (m : Move) (input before : List ℕ) (result : Result A Stop) (after : List ℕ)
     (old new : Survey) → x ≡ Pictured → IsMadePictured q steps input before (ending result after) → WriteSpends r.output before q.places.to result old new → IsPicturedPart x r given bases steps q p m

@@ -1,6 +1,7 @@
 -- Steps carried out one after another.
 use Rattle.std.proofs.Common.{◌≡◌, ℕ, ◌+◌, ◌<◌, ◌≤◌, List, [], ◌∷◌, ◌++◌, length, get_or, drop, refl, sym, ap, subst, ◌∙◌, arith, inl, inr, Option, Some, None}
 use Rattle.std.proofs.lemmas.List.{drop_all, drop_more}
+use Rattle.cob_codec.specs.Readings.{KeepsZones}
 use Rattle.cob_codec.specs.declared.reading.Reading.{Reading}
 use Rattle.cob_copybook_tree.specs.declared.node.Kind.{Kind}
 use Rattle.cob_copybook_entry.specs.Described.{PlainValue}
@@ -107,10 +108,10 @@ pub prepared_within : (side : Side) (x : Reading) (r : Records) (steps : MoveSte
 prepared_within side x r steps p own (k, step_is, fixed) = fixed.within
 
 pub made_prepared : (side : Side) (x : Reading) (r : Records) (steps : MoveSteps) (p : PreparedMove) (own : List Move) (input now : List ℕ) (end : Ending)
-    → IsStorage r.input input → length now ≡ greatest_length r.output → IsMadeReady side p steps (storage_of side input now) now end → IsPreparedMove side x r steps p own → Applied r own input now end
-made_prepared side x r steps p own input now end is size made (k, step_is, fixed) =
+    → KeepsZones x → IsStorage r.input input → length now ≡ greatest_length r.output → IsMadeReady side p steps (storage_of side input now) now end → IsPreparedMove side x r steps p own → Applied r own input now end
+made_prepared side x r steps p own input now end keeps is size made (k, step_is, fixed) =
     let (outcome, received, same) = made k step_is fixed.places in
-    subst (λ (e : Ending). Applied r own input now e) (sym same) (fixed.ends input now outcome is size (received x))
+    subst (λ (e : Ending). Applied r own input now e) (sym same) (fixed.ends input now outcome is size (received x keeps))
 
 -- ---- a part that was made ready where senders are read as their pictures say
 

@@ -1,6 +1,7 @@
 -- Single moves from one place of the output record to another that are made ready.
 use Rattle.std.proofs.Common.{◌≡◌, ℕ, ◌+◌, ◌-◌, ◌≤◌, Bool, true, false, List, [], ◌∷◌, ◌++◌, length, take, drop, refl, sym, ap, subst, ◌∙◌, arith, append_assoc, append-nil, drop-drop, length-take-le, length-drop, Option, Some, None}
 use Rattle.std.proofs.lemmas.List.{drop-take, drop_all, take-append-drop, take-append-le}
+use Rattle.cob_codec.specs.Readings.{KeepsZones}
 use Rattle.cob_codec.specs.declared.reading.Reading.{Reading}
 use Rattle.cob_codec.specs.declared.reading.Reading.TheVariants.{Pictured}
 use Rattle.cob_copybook_tree.specs.declared.node.Kind.{Kind}
@@ -43,9 +44,9 @@ use Rattle.cob_move_apply.proofs.SpentLemmas.{spent_behind}
 -- what the step answers of bytes that the sender's end is what the receiver gets
 from_bytes : (p : PreparedMove) (steps : MoveSteps) (bytes before : List ℕ) (n : ℕ) (o : Option (List ℕ)) (k : MoveKinds) → p.places.from.length ≤ length bytes → last_bytes p.places.from.length bytes ≡ field_of p.places.from before
     → n ≡ p.places.to.length → IsAnswered p steps bytes n o → IsMoveStep steps k p.step → HasPlaces p.places k → IsReceivedFrom p.places k before o
-from_bytes p steps bytes before n o k reach ends size gets is has reading =
+from_bytes p steps bytes before n o k reach ends size gets is has reading keeps =
     let same : last_bytes k.sent bytes ≡ field_of p.places.from before = ap (λ m. last_bytes m bytes) has.sent ∙ ends in
-    subst (λ (xs : List ℕ). Received (sent.Entry k.sender xs reading) k.receiver k.received o) same (gets k is (omega (arith, has.sent, reach)) (size ∙ sym has.received) reading)
+    subst (λ (xs : List ℕ). Received (sent.Entry k.sender xs reading) k.receiver k.received o) same (gets k is (omega (arith, has.sent, reach)) (size ∙ sym has.received) reading keeps)
 
 -- a step that read such bytes, and left what it wrote at the receiver's place, or all as it was
 pub made_within : (p : PreparedMove) (steps : MoveSteps) (bytes before new after : List ℕ) (n : ℕ) (b : Bool) → p.places.from.length ≤ length bytes → last_bytes p.places.from.length bytes ≡ field_of p.places.from before
@@ -133,14 +134,14 @@ pub least : (n : ℕ) → n ≤ n
 least n = omega arith
 
 -- a step of these kinds that got all bytes of its sender
-got_all : (steps : MoveSteps) (from to : Kind) (step : MoveStep) (bytes : List ℕ) (n : ℕ) (o : Option (List ℕ)) (reading : Reading) → IsMoveStep steps (between from to (length bytes) n) step
+got_all : (steps : MoveSteps) (from to : Kind) (step : MoveStep) (bytes : List ℕ) (n : ℕ) (o : Option (List ℕ)) (reading : Reading) → KeepsZones reading → IsMoveStep steps (between from to (length bytes) n) step
     → ((k : MoveKinds) → IsMoveStep steps k step → k.sent ≤ length bytes → n ≡ k.received → IsReceived k bytes o) → Received (sent.Entry from bytes reading) to n o
-got_all steps from to step bytes n o reading is gets =
-    subst (λ (xs : List ℕ). Received (sent.Entry from xs reading) to n o) (all_bytes bytes) (gets (between from to (length bytes) n) is (least (length bytes)) refl reading)
+got_all steps from to step bytes n o reading keeps is gets =
+    subst (λ (xs : List ℕ). Received (sent.Entry from xs reading) to n o) (all_bytes bytes) (gets (between from to (length bytes) n) is (least (length bytes)) refl reading keeps)
 
-pub got_always : (steps : MoveSteps) (from to : Kind) (step : MoveStep) (bytes : List ℕ) (n : ℕ) (o : Option (List ℕ)) (reading : Reading) → CarriesAnywhere steps from to step → Occupies from (length bytes) → Occupies to n
+pub got_always : (steps : MoveSteps) (from to : Kind) (step : MoveStep) (bytes : List ℕ) (n : ℕ) (o : Option (List ℕ)) (reading : Reading) → KeepsZones reading → CarriesAnywhere steps from to step → Occupies from (length bytes) → Occupies to n
     → ((k : MoveKinds) → IsMoveStep steps k step → k.sent ≤ length bytes → n ≡ k.received → IsReceived k bytes o) → Received (sent.Entry from bytes reading) to n o
-got_always steps from to step bytes n o reading carries has gets h = got_all steps from to step bytes n o reading (carries (length bytes) n has gets) h
+got_always steps from to step bytes n o reading keeps carries has gets h = got_all steps from to step bytes n o reading keeps (carries (length bytes) n has gets) h
 
 pub got_pictured : (steps : PicturedSteps) (from to : Kind) (step : PicturedStep) (bytes : List ℕ) (n : ℕ) (o : Option (List ℕ)) (reading : Reading) → reading ≡ Pictured → CarriesPictured steps from to step
     → Occupies from (length bytes) → Occupies to n
@@ -157,10 +158,10 @@ characters_of steps from to right size n (gives, side) has gets = record {
   between = record { gives = gives; count = refl; side = side };
 }
 
-pub got_characters : (steps : MoveSteps) (from to : Kind) (right : Bool) (bytes : List ℕ) (n : ℕ) (o : Option (List ℕ)) (reading : Reading) → GivesText from to right → Occupies from (length bytes) → Occupies to n
+pub got_characters : (steps : MoveSteps) (from to : Kind) (right : Bool) (bytes : List ℕ) (n : ℕ) (o : Option (List ℕ)) (reading : Reading) → KeepsZones reading → GivesText from to right → Occupies from (length bytes) → Occupies to n
     → ((k : MoveKinds) → IsMoveStep steps k (Characters (record { sent = length bytes; right = right })) → k.sent ≤ length bytes → n ≡ k.received → IsReceived k bytes o) → Received (sent.Entry from bytes reading) to n o
-got_characters steps from to right bytes n o reading gives has gets h =
-    got_all steps from to (Characters (record { sent = length bytes; right = right })) bytes n o reading (characters_of steps from to right (length bytes) n gives has gets) h
+got_characters steps from to right bytes n o reading keeps gives has gets h =
+    got_all steps from to (Characters (record { sent = length bytes; right = right })) bytes n o reading keeps (characters_of steps from to right (length bytes) n gives has gets) h
 
 -- the receiver got what the sender had where both stand
 pub there_moved : (side : Side) (r : Records) (x : Reading) (one : LocatedMove) (p : MovePlaces) (input before bytes after : List ℕ) → StandAt side r one input before p

@@ -23,3 +23,4 @@ pub mod Marked
 pub mod Reads
 pub mod Entries
 pub mod Spared
+pub mod ByRule

@@ -1,7 +1,7 @@
 -- Steps: what is carried out in the place of moves.
 use Rattle.std.specs.Prelude.{◌≡◌, ◌⊎◌, ℕ, ◌+◌, ◌<◌, ◌≤◌, Bool, false, true, List, [], ◌∷◌, ◌++◌, length, get_or, map, take, drop}
 use Rattle.cob_codec.specs.declared.reading.Reading.{Reading}
-use Rattle.cob_codec.specs.declared.reading.Reading.TheVariants.{Pictured, Whole}
+use Rattle.cob_codec.specs.declared.reading.Reading.TheVariants.{AnyZones, Pictured, Whole, WholeAnyZones}
 use Rattle.cob_copybook_tree.specs.declared.node.Kind.{Kind}
 use Rattle.cob_copybook_entry.specs.Described.{PlainValue}
 use Rattle.cob_move_data.specs.declared.operands.Side.{Side}
@@ -149,6 +149,8 @@ serves (located_step.Characters right) reading = true
 serves (located_step.Always s) reading = true
 serves (located_step.Pictured s) Pictured = true
 serves (located_step.Pictured s) Whole = false
+serves (located_step.Pictured s) AnyZones = false
+serves (located_step.Pictured s) WholeAnyZones = false
 serves located_step.Rule reading = true
 
 -- a move of an entry of the record of a side was made ready so: what is noted of either place is what this may rest on, and the step, one of these, carries the

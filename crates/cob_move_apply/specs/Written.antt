@@ -1,5 +1,6 @@
 -- What moves write at a place that is the same in every storage, and how a single move between two such places ends.
 use Rattle.std.specs.Prelude.{◌≡◌, ℕ, ◌+◌, ◌≤◌, Bool, true, false, List, [], ◌∷◌, ◌++◌, length, Option, Some, None}
+use Rattle.cob_codec.specs.Readings.{KeepsZones}
 use Rattle.cob_codec.specs.declared.reading.Reading.{Reading}
 use Rattle.cob_codec.specs.declared.reading.Reading.TheVariants.{Pictured}
 use Rattle.cob_copybook_tree.specs.declared.node.Kind.{Kind}
@@ -67,7 +68,7 @@ pub record HasPlaces (p : MovePlaces) (k : MoveKinds) : Type 0 where
 
 -- what the receiver holds after the move from a place of this storage, or none, whatever the reading
 abbrev pub IsReceivedFrom : MovePlaces → MoveKinds → List ℕ → Option (List ℕ) → Type 0
-IsReceivedFrom p k source outcome = (reading : Reading) → Received (sent.Entry k.sender (field_of p.from source) reading) k.receiver k.received outcome
+IsReceivedFrom p k source outcome = (reading : Reading) → KeepsZones reading → Received (sent.Entry k.sender (field_of p.from source) reading) k.receiver k.received outcome
 
 -- what the receiver holds after the move of the sender, read as its picture says, or none
 abbrev pub IsReceivedPicturedFrom : MovePlaces → MoveKinds → List ℕ → Option (List ℕ) → Type 0

@@ -1,6 +1,7 @@
 //! Steps, one after another.
 
 ghost use Rattle.std.specs.Prelude.{◌≡◌, ◌+◌, ◌≤◌, ℕ, List, false, length, OnErr};
+ghost use Rattle.cob_codec.specs.Readings.{KeepsZones};
 ghost use Rattle.cob_layout.specs.Sound.{IsSound};
 ghost use Rattle.cob_layout.specs.Standing.{KeepsOf};
 ghost use Rattle.cob_layout.specs.Storage.{greatest_length, IsStorage};
@@ -116,7 +117,7 @@ fn make_pictured(
 {
     match layouts.reading {
         Reading::Pictured => run_pictured(&plan.pictured, one, layouts, input, output, space),
-        Reading::Whole => {
+        _ => {
             let bases = plan.bases.as_slice();
             make_part(given, bases, *part, layouts, input, output, space)
         }
@@ -138,6 +139,7 @@ pub(crate) fn make_single(
     output: &mut [u8],
     space: &mut Workspace,
 ) -> Result<(), Stop>
+    requires keeps { KeepsZones layouts.now.reading }
     requires step { (own : List Meant) × PreparedMeans In plan.now places.now step layouts.now own }
     requires input { IsStorage layouts.now.input.now input.now }
     requires output { length output.old ≡ greatest_length layouts.now.output.now }
@@ -167,6 +169,7 @@ fn make_one(
     output: &mut [u8],
     space: &mut Workspace,
 ) -> Result<(), Stop>
+    requires keeps { KeepsZones layouts.now.reading }
     requires step { (own : List Meant) × PreparedMeans In plan.now places.now step layouts.now own }
     requires input { IsStorage layouts.now.input.now input.now }
     requires output { length output.old ≡ greatest_length layouts.now.output.now }
@@ -196,6 +199,7 @@ fn make_step(
     output: &mut [u8],
     space: &mut Workspace,
 ) -> Result<(), Stop>
+    requires keeps { KeepsZones layouts.now.reading }
     requires in_sound { IsSound layouts.now.input.now }
     requires out_sound { IsSound layouts.now.output.now }
     requires step { (own : List Meant) × StepMeans given.now plan.now step.now layouts.now own }
@@ -279,6 +283,7 @@ fn run_located_steps<'a, const VARIES: bool>(
     output: &mut [u8],
     space: &mut Workspace,
 ) -> &'a [Step]
+    requires keeps { KeepsZones layouts.now.reading }
     requires varies { layouts.now.varies ≡ VARIES }
     requires in_sound { IsSound layouts.now.input.now }
     requires out_sound { IsSound layouts.now.output.now }
@@ -319,6 +324,7 @@ fn run_placed_steps<'a, const VARIES: bool>(
     output: &mut [u8],
     space: &mut Workspace,
 ) -> &'a [Step]
+    requires keeps { KeepsZones layouts.now.reading }
     requires varies { layouts.now.varies ≡ VARIES }
     requires in_sound { IsSound layouts.now.input.now }
     requires out_sound { IsSound layouts.now.output.now }
@@ -354,6 +360,7 @@ fn run_placed<'a>(
     output: &mut [u8],
     space: &mut Workspace,
 ) -> &'a [Step]
+    requires keeps { KeepsZones layouts.now.reading }
     requires in_sound { IsSound layouts.now.input.now }
     requires out_sound { IsSound layouts.now.output.now }
     requires steps { AreLeft plan.now steps.now layouts.now input.now output.old }
@@ -387,6 +394,7 @@ fn run_all_located<'a>(
     output: &mut [u8],
     space: &mut Workspace,
 ) -> &'a [Step]
+    requires keeps { KeepsZones layouts.now.reading }
     requires in_sound { IsSound layouts.now.input.now }
     requires out_sound { IsSound layouts.now.output.now }
     requires steps { AreLeft plan.now steps.now layouts.now input.now output.old }
@@ -427,6 +435,7 @@ fn run_ready<'a>(
     output: &mut [u8],
     space: &mut Workspace,
 ) -> &'a [Step]
+    requires keeps { KeepsZones layouts.now.reading }
     requires in_sound { IsSound layouts.now.input.now }
     requires out_sound { IsSound layouts.now.output.now }
     requires steps { AreLeft plan.now steps.now layouts.now input.now output.old }
@@ -466,6 +475,7 @@ fn apply_steps(
     output: &mut [u8],
     space: &mut Workspace,
 ) -> Result<(), Stop>
+    requires keeps { KeepsZones layouts.now.reading }
     requires in_sound { IsSound layouts.now.input.now }
     requires out_sound { IsSound layouts.now.output.now }
     requires steps { (ms : List Meant) × (before : List ℕ) × Left layouts.now.reading
@@ -519,6 +529,7 @@ pub(crate) fn apply_some(
     output: &mut [u8],
     space: &mut Workspace,
 ) -> Result<(), Stop>
+    requires keeps { KeepsZones layouts.now.reading }
     requires in_sound { IsSound layouts.now.input.now }
     requires out_sound { IsSound layouts.now.output.now }
     requires steps { (ms : List Meant) × StepsMean given.now plan.now steps.now layouts.now ms }
@@ -538,36 +549,4 @@ pub(crate) fn apply_some(
         [] => Ok(()),
         _ => parts_again(apply_steps(given, plan, rest, layouts, input, output, space)),
     }
-}
-
-/// Carries out the steps of the plan of moves, in order. What is kept of the input's counts is that of this input.
-///
-/// # Errors
-///
-/// The first thing missing. The storage is as the moves and receivers before left it then.
-#[inline(always)]
-pub(crate) fn apply_in(
-    given: &[StatementMoves],
-    plan: &Plan,
-    layouts: &Layouts<'_>,
-    input: &[u8],
-    output: &mut [u8],
-    space: &mut Workspace,
-) -> Result<(), Stop>
-    requires in_sound { IsSound layouts.now.input.now }
-    requires out_sound { IsSound layouts.now.output.now }
-    requires steps { IsPlanOf given.now plan.now layouts.now }
-    requires input { IsStorage layouts.now.input.now input.now }
-    requires output { length output.old ≡ greatest_length layouts.now.output.now }
-    requires space { HasSpace (records layouts.now) space.old }
-    requires kept { KeepsOf layouts.now.input.now input.now space.old.input.counts }
-    ensures applied { Applied (records layouts.now) (all_moves layouts.now given.now) input.now
-        output.old (ending result output.new) }
-    ensures space { IsWorkspace (records layouts.now) input.now output.new space.new }
-    ensures reads { IsBounded (records layouts.now) (all_moves layouts.now given.now) input.now
-        output.old space.new.output }
-{
-    space.forget_output();
-    let steps = plan.steps.as_slice();
-    apply_some(given, plan, steps, layouts, input, output, space)
 }

@@ -55,6 +55,7 @@
 mod application;
 mod basis;
 mod between;
+mod by_rule;
 mod constant;
 mod cutting;
 mod laws;

@@ -1,6 +1,7 @@
 //! Single moves that were made ready wherever their items stand, carried out.
 
 ghost use Rattle.std.specs.Prelude.{◌≡◌, ◌+◌, ◌≤◌, Ok, false, length, true, IfSome, IsTrue, List};
+ghost use Rattle.cob_codec.specs.Readings.{KeepsZones};
 ghost use Rattle.cob_layout.specs.Sound.{IsSound};
 ghost use Rattle.cob_layout.specs.Storage.{greatest_length, IsStorage};
 ghost use Rattle.cob_move_data.specs.declared.operands.Side.TheVariants.{In, Out};
@@ -40,10 +41,7 @@ pub(crate) fn serves(step: LocatedStep, reading: Reading) -> bool
     match step {
         LocatedStep::Characters(_) => true,
         LocatedStep::Always(_) => true,
-        LocatedStep::Pictured(_) => match reading {
-            Reading::Pictured => true,
-            Reading::Whole => false,
-        },
+        LocatedStep::Pictured(_) => matches!(reading, Reading::Pictured),
         LocatedStep::Rule => true,
     }
 }
@@ -202,6 +200,7 @@ fn run_rarer(
     output: &mut [u8],
     space: &mut Workspace,
 ) -> bool
+    requires keeps { KeepsZones layouts.now.reading }
     requires in_sound { IsSound layouts.now.input.now }
     requires out_sound { IsSound layouts.now.output.now }
     requires ready { IsReadyAnywhere In (records layouts.now) plan.now.prepared plan.now.pictured
@@ -258,6 +257,7 @@ fn run_between<const VARIES: bool>(
     output: &mut [u8],
     space: &mut Workspace,
 ) -> bool
+    requires keeps { KeepsZones layouts.now.reading }
     requires varies { layouts.now.varies ≡ VARIES }
     requires in_sound { IsSound layouts.now.input.now }
     requires out_sound { IsSound layouts.now.output.now }
@@ -319,7 +319,7 @@ fn run_between<const VARIES: bool>(
                         Err(_) => false,
                     }
                 }
-                Reading::Whole => false,
+                _ => false,
             },
             _ => run_rarer(plan, one, *places, layouts, input, output, space),
         },
@@ -338,6 +338,7 @@ pub(crate) fn run_located<const VARIES: bool>(
     output: &mut [u8],
     space: &mut Workspace,
 ) -> bool
+    requires keeps { KeepsZones layouts.now.reading }
     requires varies { layouts.now.varies ≡ VARIES }
     requires in_sound { IsSound layouts.now.input.now }
     requires out_sound { IsSound layouts.now.output.now }

@@ -2,6 +2,7 @@
 //! found as the move is carried out, and so whether the receiver shares some of them.
 
 ghost use Rattle.std.specs.Prelude.{◌≡◌, false, length, true, IfSome, IsTrue, List};
+ghost use Rattle.cob_codec.specs.Readings.{KeepsZones};
 ghost use Rattle.cob_layout.specs.Sound.{IsSound};
 ghost use Rattle.cob_layout.specs.Storage.{greatest_length, IsStorage};
 ghost use Rattle.cob_move_data.specs.declared.operands.Side.TheVariants.{Out};
@@ -77,6 +78,7 @@ fn run_between_bytes(
     from: &[u8],
     to: &mut [u8],
 ) -> bool
+    requires keeps { KeepsZones reading }
     requires carries { CarriesLocated plan.now.prepared plan.now.pictured kinds.now.sender.now
         kinds.now.receiver.now step }
     requires serves { serves step reading ≡ true }
@@ -111,6 +113,7 @@ fn run_there(
     output: &mut [u8],
     space: &mut Workspace,
 ) -> bool
+    requires keeps { KeepsZones layouts.now.reading }
     requires sound { IsSound layouts.now.output.now }
     requires ready { IsReadyAnywhere Out (records layouts.now) plan.now.prepared plan.now.pictured
         one.now }
@@ -161,6 +164,7 @@ pub(crate) fn run_located_within(
     output: &mut [u8],
     space: &mut Workspace,
 ) -> bool
+    requires keeps { KeepsZones layouts.now.reading }
     requires sound { IsSound layouts.now.output.now }
     requires step { (own : List Meant) × LocatedWithinMeans plan.now number layouts.now own }
     requires output { length output.old ≡ greatest_length layouts.now.output.now }

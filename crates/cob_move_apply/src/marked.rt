@@ -11,7 +11,7 @@ ghost use Rattle.cob_move_apply.specs.Reads.{ReadsOfMoves};
 ghost use Rattle.cob_move_apply.specs.Room.{room_of};
 ghost use Rattle.cob_move_apply.specs.Told.{most_moves_told, single_moves};
 
-use crate::application::apply_some;
+use crate::by_rule::{Chosen, apply_chosen, unnoted_bases};
 use crate::layouts::Layouts;
 use crate::marking::{Mark, marked_plan};
 use crate::moves::Moves;
@@ -38,6 +38,16 @@ fn steps_between(steps: &[Step], begin: usize, end: usize) -> &[Step]
     ensures { result.now ≡ items_between begin end steps.now }
 {
     &steps[begin..end]
+}
+
+/// The statements from one number up to another.
+#[inline(always)]
+fn statements_between(statements: &[StatementMoves], begin: usize, end: usize) -> &[StatementMoves]
+    requires rises { begin ≤ end }
+    requires within { end ≤ length statements.now }
+    ensures { result.now ≡ items_between begin end statements.now }
+{
+    &statements[begin..end]
 }
 
 impl MarkedMoves {
@@ -68,10 +78,12 @@ impl MarkedMoves {
             (AreMarkedPrepared (record { input = input.now; output = output.now })) }
     {
         let made = marked_plan(alloc, given.as_slice(), ends, input, output)?;
+        let unnoted = unnoted_bases(alloc, given.as_slice())?;
         Ok(MarkedMoves {
             moves: Moves {
                 statements: given,
                 plan: made.plan,
+                unnoted,
                 reading: Reading::Pictured,
             },
             marks: made.marks,
@@ -92,6 +104,7 @@ impl MarkedMoves {
             moves: Moves {
                 statements: self.moves.statements,
                 plan: self.moves.plan,
+                unnoted: self.moves.unnoted,
                 reading,
             },
             marks: self.marks,
@@ -182,13 +195,17 @@ impl MarkedMoves {
             reading: self.moves.reading,
             varies: output_layout.varies(),
         };
-        let all = self.moves.plan.steps.as_slice();
         let statements = self.moves.statements.as_slice();
         let plan = &self.moves.plan;
-        apply_some(
+        let all = Chosen {
+            statements,
+            steps: plan.steps.as_slice(),
+            unnoted: self.moves.unnoted.as_slice(),
+        };
+        apply_chosen(
             statements,
             plan,
-            all,
+            &all,
             &layouts,
             input,
             output,
@@ -246,15 +263,19 @@ impl MarkedMoves {
             reading: self.moves.reading,
             varies: output_layout.varies(),
         };
-        let begin = self.marks[from].step;
-        let end = self.marks[to].step;
-        let steps = steps_between(self.moves.plan.steps.as_slice(), begin, end);
+        let begin = self.marks[from];
+        let end = self.marks[to];
         let statements = self.moves.statements.as_slice();
         let plan = &self.moves.plan;
-        apply_some(
+        let some = Chosen {
+            statements: statements_between(statements, begin.statement, end.statement),
+            steps: steps_between(plan.steps.as_slice(), begin.step, end.step),
+            unnoted: self.moves.unnoted.as_slice(),
+        };
+        apply_chosen(
             statements,
             plan,
-            steps,
+            &some,
             &layouts,
             input,
             output,

@@ -7,12 +7,14 @@ ghost use Rattle.cob_layout.specs.Storage.{greatest_length, IsStorage};
 ghost use Rattle.cob_layout_places.specs.Counts.{tables_of};
 ghost use Rattle.cob_move_data.specs.Moves.{AreMoves, Records, moves, moves_by, read_by, statement_moves_by};
 ghost use Rattle.cob_move_apply.specs.Applied.{Applied, ending};
+ghost use Rattle.cob_move_apply.specs.ByRule.{AreUnnoted};
 ghost use Rattle.cob_move_apply.specs.Joined.{steps_in};
 ghost use Rattle.cob_move_apply.specs.Met.{HaveMet};
 ghost use Rattle.cob_move_apply.specs.Told.{most_moves_told, single_moves};
 ghost use Rattle.cob_move_apply.specs.Room.{room_of};
 
-use crate::application::apply_in;
+use crate::basis::Basis;
+use crate::by_rule::{apply_in, unnoted_bases};
 use crate::layouts::Layouts;
 use crate::planning::plan_of;
 use crate::scratch::Scratch;
@@ -40,8 +42,11 @@ pub struct Moves {
     pub(crate) statements: Vec<StatementMoves>,
     /// What is carried out in their place.
     pub(crate) plan: Plan,
-    /// How binary items are read that are sent.
+    /// Bases of which nothing is noted, for moves that are carried out by the rule of MOVE alone.
+    pub(crate) unnoted: Vec<Basis>,
+    /// How items are read that are sent.
     pub(crate) reading: Reading,
+    pub(crate) ghost room: { AreUnnoted statements.items unnoted.items },
 }
 
 impl Moves {
@@ -67,9 +72,11 @@ impl Moves {
             (λ m. ArePrepared (record { input = input.now; output = output.now }) m) }
     {
         let plan = plan_of(alloc, given.as_slice(), input, output)?;
+        let unnoted = unnoted_bases(alloc, given.as_slice())?;
         Ok(Moves {
             statements: given,
             plan,
+            unnoted,
             reading: Reading::Pictured,
         })
     }
@@ -83,6 +90,7 @@ impl Moves {
         Moves {
             statements: self.statements,
             plan: self.plan,
+            unnoted: self.unnoted,
             reading,
         }
     }
@@ -211,6 +219,7 @@ impl Moves {
         apply_in(
             statements,
             &self.plan,
+            self.unnoted.as_slice(),
             &layouts,
             input,
             output,

@@ -3,6 +3,7 @@
 //! A step that stops is carried out once more, as all others are (`application`), to say why.
 
 ghost use Rattle.std.specs.Prelude.{◌≡◌, List, false, length, IsTrue};
+ghost use Rattle.cob_codec.specs.Readings.{KeepsZones};
 ghost use Rattle.cob_layout.specs.Sound.{IsSound};
 ghost use Rattle.cob_layout.specs.Storage.{greatest_length, IsStorage};
 ghost use Rattle.cob_move_data.specs.declared.operands.StatementMoves.{StatementMoves as Said};
@@ -37,6 +38,7 @@ fn run_single(
     output: &mut [u8],
     space: &mut Workspace,
 ) -> bool
+    requires keeps { KeepsZones layouts.now.reading }
     requires step { (own : List Meant) × PreparedMeans In plan.now places.now step layouts.now own }
     requires input { IsStorage layouts.now.input.now input.now }
     requires output { length output.old ≡ greatest_length layouts.now.output.now }
@@ -65,6 +67,7 @@ fn run_one(
     output: &mut [u8],
     space: &mut Workspace,
 ) -> bool
+    requires keeps { KeepsZones layouts.now.reading }
     requires step { (own : List Meant) × PreparedMeans In plan.now one.now.places one.now.step
         layouts.now own }
     requires input { IsStorage layouts.now.input.now input.now }
@@ -111,7 +114,7 @@ fn run_part(
                 Err(_) => false,
             }
         }
-        Reading::Whole => false,
+        _ => false,
     }
 }
 
@@ -127,6 +130,7 @@ pub(crate) fn run_step<const VARIES: bool>(
     output: &mut [u8],
     space: &mut Workspace,
 ) -> bool
+    requires keeps { KeepsZones layouts.now.reading }
     requires varies { layouts.now.varies ≡ VARIES }
     requires out_sound { IsSound layouts.now.output.now }
     requires step { (given : List Said) × (own : List Meant)

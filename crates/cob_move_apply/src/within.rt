@@ -2,6 +2,7 @@
 //! they are read where they stand, where no byte of the receiver is among them, and else they are taken first.
 
 ghost use Rattle.std.specs.Prelude.{◌≡◌, ◌+◌, ◌≤◌, false, length, List, OnErr, IsTrue};
+ghost use Rattle.cob_codec.specs.Readings.{KeepsZones};
 ghost use Rattle.cob_layout.specs.Storage.{greatest_length, IsStorage};
 ghost use Rattle.cob_move_data.specs.declared.operands.Side.TheVariants.{Out};
 ghost use Rattle.cob_move_data.specs.Moves.{Move as Meant};
@@ -129,6 +130,7 @@ pub(crate) fn make_within(
     output: &mut [u8],
     space: &mut Workspace,
 ) -> Result<(), Stop>
+    requires keeps { KeepsZones layouts.now.reading }
     requires step { (own : List Meant) × PreparedMeans Out plan.now places.now step layouts.now
         own }
     requires input { IsStorage layouts.now.input.now input.now }
@@ -167,6 +169,7 @@ pub(crate) fn run_within(
     output: &mut [u8],
     space: &mut Workspace,
 ) -> bool
+    requires keeps { KeepsZones layouts.now.reading }
     requires step { (own : List Meant) × PreparedMeans Out plan.now one.now.places one.now.step
         layouts.now own }
     requires input { IsStorage layouts.now.input.now input.now }
@@ -199,6 +202,7 @@ pub(crate) fn run_onwards(
     output: &mut [u8],
     space: &mut Workspace,
 ) -> bool
+    requires keeps { KeepsZones layouts.now.reading }
     requires step { (own : List Meant) × PreparedMeans Out plan.now places.now step layouts.now
         own }
     requires before { StandsBefore places.now }

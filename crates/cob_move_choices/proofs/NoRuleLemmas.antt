@@ -15,10 +15,11 @@ use Rattle.cob_move_statements.specs.Written.{SentConstant, WrittenReference}
 use Rattle.cob_move_statements.proofs.OneLemmas.{one_reference}
 use Rattle.cob_move_tests.specs.Laws.{ConditionsBreakNoRule}
 use Rattle.cob_move_tests.specs.Meant.{IsOperandOf}
+use Rattle.cob_move_tests.specs.Spans.{FromTo, MayBeWithin, One, Span}
 use Rattle.cob_move_tests.proofs.NoRuleLemmas.{no_operand}
 use Rattle.cob_move_choices.specs.Choices.{AnEntry, BreaksEvaluated, BreaksListed, BreaksListedValue, BreaksSpan, IsEvaluated, IsListedTest, Truth, all_of}
 use Rattle.cob_move_choices.specs.Laws.{BranchTestsBreakNoRule, SubjectsBreakNoRule}
-use Rattle.cob_move_choices.specs.Values.{FromTo, FromToWritten, IsSpanOf, MayBeWithin, One, OneWritten, Span, WrittenSpan}
+use Rattle.cob_move_choices.specs.Values.{FromToWritten, IsSpanOf, OneWritten, WrittenSpan}
 use Rattle.cob_move_choices.proofs.SpanLemmas.{one_span, one_span_of}
 
 no_evaluated : NamedBreakNoRule → (r : MoveRule) (records : Records) (ns : List Counted) (ws : List Lexeme) (s : Sender) → IsEvaluated records ns ws s → BreaksEvaluated r records ns ws → ⊥
@@ -58,7 +59,7 @@ no_listed one law r records s ws c (w, v, spelled, is, may, e) (inr (x, it, brok
     no_span one law r records s w v is may (subst (λ (z : WrittenSpan). BreaksSpan r records s z) (one_span x w ws it spelled) broken)
 
 pub no_test : ConditionsBreakNoRule → OneNamed → NamedBreakNoRule → BranchTestsBreakNoRule
-no_test none one law r records ns Truth ws c h (inl (same, some)) = some h.0
-no_test none one law r records ns Truth ws c h (inr (without, broken)) = none r records (in_turn ns false 0 ws) c h.1 broken
-no_test none one law r records ns (AnEntry s) ws c h (inl (same, some)) = some h.0
-no_test none one law r records ns (AnEntry s) ws c h (inr (without, broken)) = no_listed one law r records s (in_turn ns false 0 ws) c h.1 broken
+no_test none one law r records values ns Truth ws c h (inl (same, some)) = some h.0
+no_test none one law r records values ns Truth ws c h (inr (without, broken)) = none r records values (in_turn ns false 0 ws) c h.1 broken
+no_test none one law r records values ns (AnEntry s) ws c h (inl (same, some)) = some h.0
+no_test none one law r records values ns (AnEntry s) ws c h (inr (without, broken)) = no_listed one law r records s (in_turn ns false 0 ws) c h.1 broken

@@ -13,9 +13,10 @@ use Rattle.cob_move_names.specs.References.{NamesOperand}
 use Rattle.cob_move_statements.specs.Written.{WrittenReference}
 use Rattle.cob_move_statements.proofs.OneLemmas.{one_reference}
 use Rattle.cob_move_tests.specs.Laws.{OneConditionOf}
+use Rattle.cob_move_tests.specs.Spans.{Span, within}
 use Rattle.cob_move_choices.specs.Choices.{AnEntry, IsEvaluated, IsListedTest, Truth, all_of}
 use Rattle.cob_move_choices.specs.Laws.{OneBranchTest, OneSubject}
-use Rattle.cob_move_choices.specs.Values.{IsSpanOf, Span, WrittenSpan, within}
+use Rattle.cob_move_choices.specs.Values.{IsSpanOf, WrittenSpan}
 use Rattle.cob_move_choices.proofs.SpanLemmas.{one_span, one_span_of}
 
 one_evaluated : OneNamed → (r : Records) (ns : List Counted) (ws : List Lexeme) (s t : Sender) → IsEvaluated r ns ws s → IsEvaluated r ns ws t → s ≡ t
@@ -39,5 +40,5 @@ one_listed law r s ws c d (w, v, spelled, is, may, e) (x, u, spelled_too, it, mi
     e ∙ ap (λ (z : Span). within s z) meant ∙ sym f
 
 pub one_test_of : OneConditionOf → OneNamed → OneBranchTest
-one_test_of one law r ns Truth ws c d h k = one r (in_turn ns false 0 ws) c d h.1 k.1
-one_test_of one law r ns (AnEntry s) ws c d h k = one_listed law r s (in_turn ns false 0 ws) c d h.1 k.1
+one_test_of one law r values ns Truth ws c d h k = one r values (in_turn ns false 0 ws) c d h.1 k.1
+one_test_of one law r values ns (AnEntry s) ws c d h k = one_listed law r s (in_turn ns false 0 ws) c d h.1 k.1

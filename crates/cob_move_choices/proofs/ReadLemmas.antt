@@ -6,6 +6,7 @@ use Rattle.std.proofs.lemmas.List.{length-append}
 use Rattle.cob_source.specs.Tokens.{Lexeme}
 use Rattle.cob_copybook_clauses.specs.Written.{WrittenValue}
 use Rattle.cob_copybook_entry.specs.Described.{PlainValue}
+use Rattle.cob_copybook_names.specs.Naming.{Bearer}
 use Rattle.cob_copybook_tree.specs.declared.node.Kind.{Kind}
 use Rattle.cob_move_condition.specs.Comparable.{may_compare}
 use Rattle.cob_move_condition.specs.Conditions.{Compares, Condition}
@@ -13,21 +14,23 @@ use Rattle.cob_move_data.specs.Moves.{Literal, Records, Sender, operand_in, reco
 use Rattle.cob_move_loops.specs.Passages.{AnEvaluate}
 use Rattle.cob_move_loops.specs.Turns.{Counted, in_turn}
 use Rattle.cob_move_names.specs.Senders.{kind_of_sender}
+use Rattle.cob_move_names.specs.Valued.{ValuedEntry}
 use Rattle.cob_move_receive.specs.Table.{SenderKind}
 use Rattle.cob_move_receive.specs.Table as table
 use Rattle.cob_move_statements.specs.declared.fault.MoveRule.{MoveRule}
 use Rattle.cob_move_statements.specs.declared.fault.MoveRule.TheVariants as rule
 use Rattle.cob_move_statements.specs.Written.{SentConstant}
 use Rattle.cob_move_tests.specs.declared.entries.NamedEntry.{NamedEntry}
-use Rattle.cob_move_tests.specs.Asked.{AsksMore, IsAsked, IsSubscriptedEntry, kind_asked, sender_asked, sender_named}
+use Rattle.cob_move_tests.specs.Asked.{AsksMore, IsAsked, IsSubscriptedEntry, MayBeListed, kind_asked, sender_asked, sender_named}
 use Rattle.cob_move_tests.specs.Broken.{BreaksConditionWords}
 use Rattle.cob_move_tests.specs.Counters.{HasNoCounter, has_no_counter}
 use Rattle.cob_move_tests.specs.Meant.{IsConditionOf, IsOperandOf}
+use Rattle.cob_move_tests.specs.Spans.{FromTo, One, within}
 use Rattle.cob_move_tests.proofs.AskedLemmas.{last_get, one_more}
 use Rattle.cob_move_choices.specs.declared.subjects.Subject.TheVariants as subject
-use Rattle.cob_move_choices.specs.Asked.{MayBeListed, against}
+use Rattle.cob_move_choices.specs.Asked.{against}
 use Rattle.cob_move_choices.specs.Choices.{Against, AnEntry, BreaksBranchTest, BreaksEvaluated, BreaksTestInTurn, BreaksListed, BreaksListedValue, BreaksSpan, BreaksSubject, IsBranchTestOf, IsEvaluated, IsListedTest, IsSubjectOf, IsTruth, Truth, all_of}
-use Rattle.cob_move_choices.specs.Values.{FromTo, FromToWritten, IsSpanWritten, One, OneWritten, WrittenSpan, within}
+use Rattle.cob_move_choices.specs.Values.{FromToWritten, IsSpanWritten, OneWritten, WrittenSpan}
 
 both : (t : Bool) → t ≡ true → t ≡ false → ⊥
 both t x y = cc
@@ -122,31 +125,31 @@ not_comparable records s v x is lacks =
 
 -- ---- tests in a turn
 
-pub truth_found : (r : Records) (ns : List Counted) (ws own : List Lexeme) (c : Condition) → HasNoCounter ns ws → own ≡ in_turn ns false 0 ws → IsConditionOf r own c
-    → IsBranchTestOf r ns Truth ws c
-truth_found r ns ws own c none same is = (none, subst (λ (t : List Lexeme). IsConditionOf r t c) same is)
+pub truth_found : (r : Records) (values : List (Bearer ValuedEntry)) (ns : List Counted) (ws own : List Lexeme) (c : Condition) → HasNoCounter ns ws → own ≡ in_turn ns false 0 ws → IsConditionOf r values own c
+    → IsBranchTestOf r values ns Truth ws c
+truth_found r values ns ws own c none same is = (none, subst (λ (t : List Lexeme). IsConditionOf r values t c) same is)
 
-pub listed_found : (r : Records) (ns : List Counted) (s : Sender) (ws own : List Lexeme) (c : Condition) → HasNoCounter ns ws → own ≡ in_turn ns false 0 ws → IsListedTest r s own c
-    → IsBranchTestOf r ns (AnEntry s) ws c
-listed_found r ns s ws own c none same is = (none, subst (λ (t : List Lexeme). IsListedTest r s t c) same is)
+pub listed_found : (r : Records) (values : List (Bearer ValuedEntry)) (ns : List Counted) (s : Sender) (ws own : List Lexeme) (c : Condition) → HasNoCounter ns ws → own ≡ in_turn ns false 0 ws → IsListedTest r s own c
+    → IsBranchTestOf r values ns (AnEntry s) ws c
+listed_found r values ns s ws own c none same is = (none, subst (λ (t : List Lexeme). IsListedTest r s t c) same is)
 
-pub test_refused : (r : MoveRule) (records : Records) (ns : List Counted) (a : Against) (ws own : List Lexeme) → HasNoCounter ns ws → own ≡ in_turn ns false 0 ws
-    → BreaksTestInTurn r records a own → BreaksBranchTest r records ns a ws
-test_refused r records ns a ws own none same broken = inr (none, subst (λ (t : List Lexeme). BreaksTestInTurn r records a t) same broken)
+pub test_refused : (r : MoveRule) (records : Records) (values : List (Bearer ValuedEntry)) (ns : List Counted) (a : Against) (ws own : List Lexeme) → HasNoCounter ns ws → own ≡ in_turn ns false 0 ws
+    → BreaksTestInTurn r records values a own → BreaksBranchTest r records values ns a ws
+test_refused r records values ns a ws own none same broken = inr (none, subst (λ (t : List Lexeme). BreaksTestInTurn r records values a t) same broken)
 
-pub counter_among : (records : Records) (ns : List Counted) (a : Against) (ws : List Lexeme) → has_no_counter ns false false ws ≡ false → BreaksBranchTest rule.Grammar records ns a ws
-counter_among records ns a ws some = inl (refl, λ none. both (has_no_counter ns false false ws) none some)
+pub counter_among : (records : Records) (values : List (Bearer ValuedEntry)) (ns : List Counted) (a : Against) (ws : List Lexeme) → has_no_counter ns false false ws ≡ false → BreaksBranchTest rule.Grammar records values ns a ws
+counter_among records values ns a ws some = inl (refl, λ none. both (has_no_counter ns false false ws) none some)
 
 -- why a test isn't read, in a choice that is held against nothing
-pub truth_refused : (r : MoveRule) (records : Records) (ns : List Counted) (a : Against) (ws own : List Lexeme) → a ≡ Truth → HasNoCounter ns ws → own ≡ in_turn ns false 0 ws → (r ≡ rule.Memory) ⊎ BreaksConditionWords r records own
-    → (r ≡ rule.Memory) ⊎ BreaksBranchTest r records ns a ws
-truth_refused r records ns a ws own held none same (inl memory) = inl memory
-truth_refused r records ns a ws own held none same (inr broken) =
-    inr (subst (λ (x : Against). BreaksBranchTest r records ns x ws) (sym held) (test_refused r records ns Truth ws own none same broken))
+pub truth_refused : (r : MoveRule) (records : Records) (values : List (Bearer ValuedEntry)) (ns : List Counted) (a : Against) (ws own : List Lexeme) → a ≡ Truth → HasNoCounter ns ws → own ≡ in_turn ns false 0 ws → (r ≡ rule.Memory) ⊎ BreaksConditionWords r records values own
+    → (r ≡ rule.Memory) ⊎ BreaksBranchTest r records values ns a ws
+truth_refused r records values ns a ws own held none same (inl memory) = inl memory
+truth_refused r records values ns a ws own held none same (inr broken) =
+    inr (subst (λ (x : Against). BreaksBranchTest r records values ns x ws) (sym held) (test_refused r records values ns Truth ws own none same broken))
 
 -- and in one that is held against an entry
-pub listed_refused : (r : MoveRule) (records : Records) (ns : List Counted) (a : Against) (s : Sender) (ws own : List Lexeme) → a ≡ AnEntry s → HasNoCounter ns ws → own ≡ in_turn ns false 0 ws → (r ≡ rule.Memory) ⊎ BreaksListed r records s own
-    → (r ≡ rule.Memory) ⊎ BreaksBranchTest r records ns a ws
-listed_refused r records ns a s ws own held none same (inl memory) = inl memory
-listed_refused r records ns a s ws own held none same (inr broken) =
-    inr (subst (λ (x : Against). BreaksBranchTest r records ns x ws) (sym held) (test_refused r records ns (AnEntry s) ws own none same broken))
+pub listed_refused : (r : MoveRule) (records : Records) (values : List (Bearer ValuedEntry)) (ns : List Counted) (a : Against) (s : Sender) (ws own : List Lexeme) → a ≡ AnEntry s → HasNoCounter ns ws → own ≡ in_turn ns false 0 ws → (r ≡ rule.Memory) ⊎ BreaksListed r records s own
+    → (r ≡ rule.Memory) ⊎ BreaksBranchTest r records values ns a ws
+listed_refused r records values ns a s ws own held none same (inl memory) = inl memory
+listed_refused r records values ns a s ws own held none same (inr broken) =
+    inr (subst (λ (x : Against). BreaksBranchTest r records values ns x ws) (sym held) (test_refused r records values ns (AnEntry s) ws own none same broken))

@@ -10,10 +10,11 @@ use Rattle.cob_move_data.specs.Moves.{Sender}
 use Rattle.cob_move_names.specs.Candidates.{Candidate}
 use Rattle.cob_move_names.specs.Laws.{OneNamed}
 use Rattle.cob_move_statements.specs.Written.{SentConstant}
+use Rattle.cob_move_tests.specs.Spans.{FromTo, One, Span}
 use Rattle.cob_move_tests.proofs.OneLemmas.{one_operand}
 use Rattle.cob_source.specs.Tokens.{Lexeme}
 use Rattle.cob_source.specs.declared.token.TokenKind.{TokenKind}
-use Rattle.cob_move_choices.specs.Values.{FromTo, FromToWritten, IsSpanOf, IsSpanWritten, IsThru, IsValueWritten, One, OneWritten, Span, WrittenSpan}
+use Rattle.cob_move_choices.specs.Values.{FromToWritten, IsSpanOf, IsSpanWritten, IsThru, IsValueWritten, OneWritten, WrittenSpan}
 
 -- ---- THRU
 

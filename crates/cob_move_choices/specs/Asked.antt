@@ -1,10 +1,7 @@
 -- What the tests of a choice are held against, by the number of its entry.
-use Rattle.std.specs.Prelude.{◌≡◌, ℕ, List, true}
-use Rattle.cob_copybook_entry.specs.Described.{PlainValue}
-use Rattle.cob_move_condition.specs.Comparable.{may_compare}
-use Rattle.cob_move_data.specs.Moves.{Records, Sender}
-use Rattle.cob_move_receive.specs.Table.{Entry as EntryOf, Literal as LiteralOf}
-use Rattle.cob_move_tests.specs.Asked.{IsAsked, kind_named}
+use Rattle.std.specs.Prelude.{ℕ, List}
+use Rattle.cob_move_data.specs.Moves.{Sender}
+use Rattle.cob_move_tests.specs.Asked.{IsAsked}
 use Rattle.cob_move_tests.specs.declared.entries.NamedEntry.{NamedEntry}
 use Rattle.cob_move_choices.specs.declared.subjects.Subject.{Subject}
 use Rattle.cob_move_choices.specs.declared.subjects.Subject.TheVariants as subject
@@ -19,7 +16,3 @@ against entry (subject.Entry number) = AnEntry (entry number)
 abbrev pub IsSubjectAsked : List NamedEntry → Subject → Type 0
 IsSubjectAsked asked subject.Truth = Unit {0}
 IsSubjectAsked asked (subject.Entry number) = IsAsked asked number
-
--- an entry that is asked for may be compared with this constant
-abbrev pub MayBeListed : Records → List NamedEntry → ℕ → PlainValue → Type 0
-MayBeListed r asked number v = IsAsked asked number × (may_compare (EntryOf (kind_named r asked number)) (LiteralOf v) ≡ true)

@@ -4,6 +4,7 @@ use Rattle.cob_source.specs.Tokens.{Lexeme}
 use Rattle.cob_codec.specs.declared.reading.Reading.TheVariants.{Pictured}
 use Rattle.cob_copybook_clauses.specs.Clauses.{IsWord}
 use Rattle.cob_copybook_clauses.specs.Written.{WrittenValue}
+use Rattle.cob_copybook_names.specs.Naming.{Bearer}
 use Rattle.cob_move_condition.specs.Conditions.{Condition, Either}
 use Rattle.cob_move_conditions.specs.Operands.{IsWrittenOperand}
 use Rattle.cob_move_data.specs.declared.operands.Operand.{Operand}
@@ -13,13 +14,15 @@ use Rattle.cob_move_loops.specs.Passages.{AnEvaluate, AnIf, WrittenChoice}
 use Rattle.cob_move_loops.specs.Turns.{Counted, in_turn}
 use Rattle.cob_move_names.specs.Candidates.{Candidate, all_entries}
 use Rattle.cob_move_names.specs.References.{BreaksReference, NamesOperand}
+use Rattle.cob_move_names.specs.Valued.{ValuedEntry}
 use Rattle.cob_move_statements.specs.declared.fault.MoveRule.{MoveRule}
 use Rattle.cob_move_statements.specs.declared.fault.MoveRule.TheVariants as rule
 use Rattle.cob_move_statements.specs.Written.{SentConstant, SentReference, WrittenReference}
 use Rattle.cob_move_tests.specs.Broken.{BreaksOperand, BreaksConditionWords}
 use Rattle.cob_move_tests.specs.Counters.{HasNoCounter}
 use Rattle.cob_move_tests.specs.Meant.{IsConditionOf}
-use Rattle.cob_move_choices.specs.Values.{FromToWritten, IsSpanOf, IsSpanWritten, MayBeWithin, OneWritten, Span, WrittenSpan, within}
+use Rattle.cob_move_tests.specs.Spans.{MayBeWithin, Span, within}
+use Rattle.cob_move_choices.specs.Values.{FromToWritten, IsSpanOf, IsSpanWritten, OneWritten, WrittenSpan}
 
 -- any entry of the two records
 abbrev pub all_of : Records → List Candidate
@@ -54,10 +57,10 @@ IsSubjectOf r ns (AnEvaluate line ws) a =
 abbrev pub IsListedTest : Records → Sender → List Lexeme → Condition → Type 0
 IsListedTest r s ws c = (w : WrittenSpan) × (v : Span) × IsSpanWritten w ws × IsSpanOf (all_of r) w v × MayBeWithin s v × (c ≡ within s v)
 
--- The words of a test mean this condition in a turn.
-abbrev pub IsBranchTestOf : Records → List Counted → Against → List Lexeme → Condition → Type 0
-IsBranchTestOf r ns Truth ws c = HasNoCounter ns ws × IsConditionOf r (in_turn ns false 0 ws) c
-IsBranchTestOf r ns (AnEntry s) ws c = HasNoCounter ns ws × IsListedTest r s (in_turn ns false 0 ws) c
+-- The words of a test mean this condition in a turn, between two records that have these condition-names.
+abbrev pub IsBranchTestOf : Records → List (Bearer ValuedEntry) → List Counted → Against → List Lexeme → Condition → Type 0
+IsBranchTestOf r values ns Truth ws c = HasNoCounter ns ws × IsConditionOf r values (in_turn ns false 0 ws) c
+IsBranchTestOf r values ns (AnEntry s) ws c = HasNoCounter ns ws × IsListedTest r s (in_turn ns false 0 ws) c
 
 -- a test behind those of WHENs whose statements are the same: one of them holds
 abbrev pub joined_test : Option Condition → Condition → Condition
@@ -95,12 +98,12 @@ BreaksListed r records s ws =
     ⊎ ((w : WrittenSpan) × IsSpanWritten w ws × BreaksSpan r records s w)
 
 -- the words of a test without counters do, in a turn
-abbrev pub BreaksTestInTurn : MoveRule → Records → Against → List Lexeme → Type 0
-BreaksTestInTurn r records Truth ws = BreaksConditionWords r records ws
-BreaksTestInTurn r records (AnEntry s) ws = BreaksListed r records s ws
+abbrev pub BreaksTestInTurn : MoveRule → Records → List (Bearer ValuedEntry) → Against → List Lexeme → Type 0
+BreaksTestInTurn r records values Truth ws = BreaksConditionWords r records values ws
+BreaksTestInTurn r records values (AnEntry s) ws = BreaksListed r records s ws
 
 -- The words of a test break a rule in a turn: a counter is among them (M1), or they do so with its number in its place.
-abbrev pub BreaksBranchTest : MoveRule → Records → List Counted → Against → List Lexeme → Type 0
-BreaksBranchTest r records ns a ws =
+abbrev pub BreaksBranchTest : MoveRule → Records → List (Bearer ValuedEntry) → List Counted → Against → List Lexeme → Type 0
+BreaksBranchTest r records values ns a ws =
     ((r ≡ rule.Grammar) × (HasNoCounter ns ws → ⊥))
-    ⊎ (HasNoCounter ns ws × BreaksTestInTurn r records a (in_turn ns false 0 ws))
+    ⊎ (HasNoCounter ns ws × BreaksTestInTurn r records values a (in_turn ns false 0 ws))

@@ -1,17 +1,14 @@
 -- The values that a WHEN lists.
-use Rattle.std.specs.Prelude.{◌≡◌, ◌⊎◌, true, codes, List, [], ◌∷◌, ◌++◌}
+use Rattle.std.specs.Prelude.{◌≡◌, ◌⊎◌, codes, List, [], ◌∷◌, ◌++◌}
 use Rattle.cob_source.specs.Tokens.{Lexeme}
 use Rattle.cob_copybook_clauses.specs.Clauses.{IsWord}
 use Rattle.cob_copybook_clauses.specs.Written.{WrittenValue, written_value}
-use Rattle.cob_move_condition.specs.Comparable.{may_compare}
 use Rattle.cob_move_conditions.specs.Operands.{IsWrittenOperand}
-use Rattle.std.specs.declared.cmp.Ordering.TheVariants.{Equal, Greater, Less}
-use Rattle.cob_move_condition.specs.Conditions.{Both, Compares, Condition, Not}
 use Rattle.cob_move_data.specs.Moves.{Sender}
 use Rattle.cob_move_names.specs.Candidates.{Candidate}
-use Rattle.cob_move_names.specs.Senders.{kind_of_sender}
 use Rattle.cob_move_statements.specs.Written.{SentConstant}
 use Rattle.cob_move_tests.specs.Meant.{IsOperandOf}
+use Rattle.cob_move_tests.specs.Spans.{FromTo, One, Span}
 use Rattle.cob_move_choices.specs.declared.values.Listed.{Listed}
 use Rattle.cob_move_choices.specs.declared.values.Listed.TheVariants as listed
 
@@ -39,22 +36,7 @@ IsSpanWritten (OneWritten v) ws = IsValueWritten v ws
 IsSpanWritten (FromToWritten v w) ws = (from to : List Lexeme) × (thru : Lexeme)
     × IsValueWritten v from × IsThru thru × IsValueWritten w to × (ws ≡ from ++ thru ∷ to)
 
--- a value, or all from one to another
-pub data Span : Type 0 where
-  One : Sender → Span
-  FromTo : Sender → Sender → Span
-
--- a sender is within a span: it is the value, or neither less than the first nor greater than the last
-abbrev pub within : Sender → Span → Condition
-within a (One v) = Compares a Equal v
-within a (FromTo v w) = Both (Not (Compares a Less v)) (Not (Compares a Greater w))
-
 -- what is written means these values
 abbrev pub IsSpanOf : List Candidate → WrittenSpan → Span → Type 0
 IsSpanOf all (OneWritten v) s = (a : Sender) × IsOperandOf all (SentConstant v) a × (s ≡ One a)
 IsSpanOf all (FromToWritten v w) s = (a b : Sender) × IsOperandOf all (SentConstant v) a × IsOperandOf all (SentConstant w) b × (s ≡ FromTo a b)
-
--- a sender may be compared with each of the values
-abbrev pub MayBeWithin : Sender → Span → Type 0
-MayBeWithin a (One v) = may_compare (kind_of_sender a) (kind_of_sender v) ≡ true
-MayBeWithin a (FromTo v w) = (may_compare (kind_of_sender a) (kind_of_sender v) ≡ true) × (may_compare (kind_of_sender a) (kind_of_sender w) ≡ true)

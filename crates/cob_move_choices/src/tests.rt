@@ -5,7 +5,7 @@ ghost use Rattle.cob_move_condition.specs.Conditions.{condition_of as meant};
 ghost use Rattle.cob_move_loops.specs.Reading.{counters};
 ghost use Rattle.cob_move_statements.specs.declared.fault.MoveRule.TheVariants.{Memory};
 ghost use Rattle.cob_source.specs.Tokens.{lexemes};
-ghost use Rattle.cob_move_tests.specs.Entries.{AllMayBeNamed, records_of};
+ghost use Rattle.cob_move_tests.specs.Entries.{AllMayBeNamed, records_of, valued_in};
 ghost use Rattle.std.specs.List.{AllByRecursion};
 ghost use Rattle.cob_move_tests.specs.Asked.{AsksMore, IsSubscriptedEntry, IsTestable, sender_named};
 ghost use Rattle.cob_move_choices.specs.Asked.{IsSubjectAsked, against};
@@ -36,7 +36,7 @@ pub fn branch_test(
     requires named { AllMayBeNamed entries.now }
     requires there { IsSubjectAsked asked.old.items subject }
     requires operands { AllByRecursion (IsSubscriptedEntry (records_of entries.now)) asked.old.items }
-    ensures found { IfOk result (λ c. IsBranchTestOf (records_of entries.now) (counters turn.now)
+    ensures found { IfOk result (λ c. IsBranchTestOf (records_of entries.now) (valued_in entries.now) (counters turn.now)
         (against (sender_named (records_of entries.now) asked.old.items) subject)
         (lexemes words.now)
         (meant (sender_named (records_of entries.now) asked.new.items) c)) }
@@ -44,7 +44,7 @@ pub fn branch_test(
     // What was asked for before keeps its number, also where the words are refused.
     ensures asks { AsksMore (records_of entries.now) asked.old.items asked.new.items }
     ensures fault { IfErr result (λ r. (r ≡ Memory) ⊎ BreaksBranchTest r
-        (records_of entries.now) (counters turn.now)
+        (records_of entries.now) (valued_in entries.now) (counters turn.now)
         (against (sender_named (records_of entries.now) asked.old.items) subject)
         (lexemes words.now)) }
 {

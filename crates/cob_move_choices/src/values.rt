@@ -1,36 +1,34 @@
 //! The values that a WHEN lists.
 
-ghost use Rattle.std.specs.Prelude.{◌≡◌, ◌⊎◌, ◌↔◌, ℕ, List, true, IfErr, IfOk, IfSome, IsSomeAnd, IsTrue, Some};
+ghost use Rattle.std.specs.Prelude.{◌≡◌, ◌⊎◌, ◌↔◌, true, IfErr, IfOk, IfSome, IsSomeAnd, IsTrue, Some};
 ghost use Rattle.std.specs.List.{AllByRecursion};
 ghost use Rattle.cob_copybook_clauses.specs.Reading.{Answers, EachCutNeither, StandInFront};
 ghost use Rattle.cob_copybook_clauses.specs.Written.{WrittenValue, written_value};
 ghost use Rattle.cob_copybook_clauses.specs.declared.term.WordClass.TheVariants as term;
 ghost use Rattle.cob_copybook_entry.specs.Described.{plain_value};
 ghost use Rattle.cob_move_condition.specs.Comparable.{may_compare};
-ghost use Rattle.cob_move_condition.specs.Conditions.{Compares as ComparesTo, condition_of};
-ghost use Rattle.cob_move_data.specs.Moves.{Literal as LiteralSender, Records, Sender};
+ghost use Rattle.cob_move_condition.specs.Conditions.{condition_of};
+ghost use Rattle.cob_move_data.specs.Moves.{Literal as LiteralSender};
 ghost use Rattle.cob_move_names.specs.Senders.{kind_of_sender};
 ghost use Rattle.cob_move_statements.specs.declared.fault.MoveRule.TheVariants.{Memory};
 ghost use Rattle.cob_move_statements.specs.Written.{SentConstant};
 ghost use Rattle.cob_move_tests.specs.Asked.{IsAsked, IsSubscriptedEntry, IsTestable, sender_asked, sender_named};
-ghost use Rattle.cob_move_tests.specs.declared.entries.NamedEntry.{NamedEntry as Named};
 ghost use Rattle.cob_move_tests.specs.Entries.{AllMayBeNamed, nameable, records_of};
 ghost use Rattle.cob_move_tests.specs.Meant.{IsOperandOf};
 ghost use Rattle.cob_source.specs.Tokens.{lexeme, lexemes};
-ghost use Rattle.cob_move_choices.specs.Asked.{MayBeListed};
 ghost use Rattle.cob_move_choices.specs.Choices.{BreaksListed, BreaksListedValue, IsListedTest};
-ghost use Rattle.cob_move_choices.specs.Values.{FromTo, IsSpanWritten, IsThru, IsValueWritten, WrittenSpan, within, written_span};
+ghost use Rattle.cob_move_choices.specs.Values.{IsSpanWritten, IsThru, IsValueWritten, WrittenSpan, written_span};
 
 use cob_copybook_clauses::ValueClause;
 use cob_copybook_entry::Value;
-use cob_move_condition::{Comparand, Condition, may_compare};
+use cob_move_condition::{Condition, may_compare};
 use cob_move_conditions::operand_at;
 use cob_move_loops::is_that_word;
 use cob_move_receive::SenderKind;
 use cob_move_statements::{MoveRule, StatementSender};
-use cob_move_tests::{Entries, NamedEntry, both, constant_compared, opposite_if};
+use cob_move_tests::{Entries, NamedEntry, between, compares, constant_compared};
 use cob_source::Token;
-use std::alloc::{AllocError, Global};
+use std::alloc::Global;
 use std::cmp::Ordering;
 
 /// A value, or two with THRU between them.
@@ -106,34 +104,6 @@ fn value_of(
         return Err(MoveRule::NotComparable);
     }
     Ok(value)
-}
-
-/// That the entry with a number is in this order beside a value.
-fn compares(number: usize, order: Ordering, value: Value) -> Condition
-    ensures means { (entry : ℕ → Sender) → condition_of entry result
-        ≡ ComparesTo (entry number) order (LiteralSender (plain_value value)) }
-    ensures testable { (r : Records) (asked : List Named) → MayBeListed r asked number
-        (plain_value value) → IsTestable r asked result }
-{
-    Condition::Compares(Comparand::Entry(number), order, Comparand::Constant(value))
-}
-
-/// That the entry with a number is neither less than a value nor greater than another.
-///
-/// # Errors
-///
-/// Memory was refused.
-fn between(alloc: Global, number: usize, from: Value, to: Value) -> Result<Condition, AllocError>
-    ensures means { IfOk result (λ c. (entry : ℕ → Sender) → condition_of entry c
-        ≡ within (entry number) (FromTo (LiteralSender (plain_value from))
-        (LiteralSender (plain_value to)))) }
-    ensures testable { IfOk result (λ c. (r : Records) (asked : List Named)
-        → MayBeListed r asked number (plain_value from)
-        → MayBeListed r asked number (plain_value to) → IsTestable r asked c) }
-{
-    let not_less = opposite_if(alloc, true, compares(number, Ordering::Less, from))?;
-    let not_greater = opposite_if(alloc, true, compares(number, Ordering::Greater, to))?;
-    both(alloc, not_less, not_greater)
 }
 
 /// Whether the entry with this number is one of the values that words list.

@@ -1,6 +1,7 @@
 -- Whether a number's bytes represent one.
 use Rattle.std.proofs.Common.{◌≡◌, ◌↔◌, ℕ, Bool, true, false, List, refl, sym, subst, ◌∙◌, Option, Some, None}
 use Rattle.std.specs.Prelude.{IfSome, IsSomeAnd, MatchBool, is_some}
+use Rattle.cob_codec.specs.Readings.{keeping_zones}
 use Rattle.cob_codec.specs.declared.reading.Reading.{Reading}
 use Rattle.cob_decimal.specs.declared.number.Number.{Number}
 use Rattle.cob_copybook_tree.specs.declared.node.Kind.{Kind}
@@ -21,12 +22,12 @@ is_there s None only (v, gives) = absurd (only v gives)
 is_there s (Some n) only has = refl
 
 pub numeric_entry : (kind : Kind) (bytes : List ℕ) (reading : Reading) (o : Option Number) (r : Bool) → r ≡ is_some o → is_number_operand (known.Entry kind) ≡ true
-    → IfSome o (λ n. GivesNumber (Entry kind bytes reading) (amount n))
-    → ((v : Amount) → GivesNumber (Entry kind bytes reading) v → IsSomeAnd o (λ n. amount n ≡ v))
+    → IfSome o (λ n. GivesNumber (Entry kind bytes (keeping_zones reading)) (amount n))
+    → ((v : Amount) → GivesNumber (Entry kind bytes (keeping_zones reading)) v → IsSomeAnd o (λ n. amount n ≡ v))
     → (r ≡ true) ↔ IsInClass Numeric (Entry kind bytes reading)
 numeric_entry Group bytes reading o r is number found only = cc
 numeric_entry (ItemKind i) bytes reading o r is number found only =
-    let s = Entry (ItemKind i) bytes reading in (
+    let s = Entry (ItemKind i) bytes (keeping_zones reading) in (
       λ e. subst (λ (b : Bool). MatchBool b (GivesSomeNumber s) (AreOfClass Numeric bytes)) (sym number) (there_is s o found (sym is ∙ e)),
       λ h. is ∙ is_there s o only (subst (λ (b : Bool). MatchBool b (GivesSomeNumber s) (AreOfClass Numeric bytes)) number h),
     )
@@ -35,7 +36,7 @@ pub other_entry : (kind : Kind) (bytes : List ℕ) (reading : Reading) (r : Bool
     → (r ≡ true) ↔ IsInClass Numeric (Entry kind bytes reading)
 other_entry Group bytes reading r number is = is
 other_entry (ItemKind i) bytes reading r number is =
-    let s = Entry (ItemKind i) bytes reading in (
+    let s = Entry (ItemKind i) bytes (keeping_zones reading) in (
       λ e. subst (λ (b : Bool). MatchBool b (GivesSomeNumber s) (AreOfClass Numeric bytes)) (sym number) (is.0 e),
       λ h. is.1 (subst (λ (b : Bool). MatchBool b (GivesSomeNumber s) (AreOfClass Numeric bytes)) number h),
     )

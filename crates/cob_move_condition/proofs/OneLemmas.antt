@@ -2,6 +2,7 @@
 use Rattle.std.proofs.Common.{◌≡◌, ℕ, Bool, true, false, ◌||◌, not, List, length, refl, sym, ap, subst, ◌∙◌, inl, inr, Ok, Err, Result}
 use Rattle.std.specs.Prelude.{MatchBool, ℤ}
 use Rattle.std.specs.declared.cmp.Ordering.{Ordering}
+use Rattle.cob_codec.specs.Readings.{keeping_zones}
 use Rattle.cob_codec.specs.declared.reading.Reading.{Reading}
 use Rattle.cob_picture.specs.Counts as counts
 use Rattle.cob_picture.specs.declared.category.Category.{Category}
@@ -69,7 +70,7 @@ one_numerals law reading i bytes a b (inr p) (inr q) = p.1 ∙ sym q.1
 one_beside : Laws → (group : Bool) (kind : Kind) (bytes : List ℕ) (reading : Reading) (a b : List ℕ) → GivesBeside group kind bytes reading a → GivesBeside group kind bytes reading b → a ≡ b
 one_beside law group Group bytes reading a b p q = p ∙ sym q
 one_beside law group (ItemKind i) bytes reading a b p q =
-    one_of (group || not (is_number i)) (λ (t : List ℕ). t ≡ bytes) (GivesNumerals reading i bytes) a b (λ x y. x ∙ sym y) (one_numerals law.number reading i bytes a b) p q
+    one_of (group || not (is_number i)) (λ (t : List ℕ). t ≡ bytes) (GivesNumerals (keeping_zones reading) i bytes) a b (λ x y. x ∙ sym y) (one_numerals law.number (keeping_zones reading) i bytes a b) p q
 
 -- a constant beside a text gives one
 one_filled : Laws → (c : PlainValue) (n m : ℕ) (a b : List ℕ) → n ≡ m → GivesConstant c n a → GivesConstant c m b → a ≡ b

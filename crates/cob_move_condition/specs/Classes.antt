@@ -1,6 +1,7 @@
 -- Classes of entries (ANSI X3.23-1985, Nucleus: class conditions).
 use Rattle.std.specs.Prelude.{◌≡◌, ℕ, Bool, true, ◌&&◌, ◌||◌, ◌==◌, nat_le, List, MatchBool}
 use Rattle.std.specs.List.{AllByRecursion}
+use Rattle.cob_codec.specs.Readings.{keeping_zones}
 use Rattle.cob_cp037.specs.Named.{space_byte}
 use Rattle.cob_copybook_tree.specs.declared.node.Kind.TheVariants.{Group, Item as ItemKind}
 use Rattle.cob_copybook_tree.specs.Resolving.{is_number}
@@ -36,11 +37,12 @@ AreOfClass class bytes = AllByRecursion (λ b. is_class_byte class b ≡ true) b
 abbrev pub GivesSomeNumber : Sent → Type 0
 GivesSomeNumber a = (v : Amount) × GivesNumber a v
 
--- An entry is of the class: a number is numeric where its bytes represent a value, and all else is of a class where each of its bytes is.
+-- An entry is of the class: a number is numeric where its bytes represent a value by strict zones, and all else is of a class where each of its bytes
+-- is.
 abbrev pub IsInClass : Class → Sent → Type 0
 IsInClass class (Literal c) = ⊥
 IsInClass class (Entry Group bytes reading) = AreOfClass class bytes
-IsInClass Numeric (Entry (ItemKind i) bytes reading) = MatchBool (is_number i) (GivesSomeNumber (Entry (ItemKind i) bytes reading)) (AreOfClass Numeric bytes)
+IsInClass Numeric (Entry (ItemKind i) bytes reading) = MatchBool (is_number i) (GivesSomeNumber (Entry (ItemKind i) bytes (keeping_zones reading))) (AreOfClass Numeric bytes)
 IsInClass Alphabetic (Entry (ItemKind i) bytes reading) = AreOfClass Alphabetic bytes
 IsInClass AlphabeticLower (Entry (ItemKind i) bytes reading) = AreOfClass AlphabeticLower bytes
 IsInClass AlphabeticUpper (Entry (ItemKind i) bytes reading) = AreOfClass AlphabeticUpper bytes

@@ -3,6 +3,7 @@ use Rattle.std.specs.Prelude.{◌≡◌, ◌⊎◌, ℕ, ℤ, ◌-ℤ◌, int_lt
 use Rattle.std.specs.declared.cmp.Ordering.{Ordering}
 use Rattle.std.specs.declared.cmp.Ordering.TheVariants.{Equal}
 use Rattle.std.specs.Ordering.{nat_cmp, int_cmp, ordering_then}
+use Rattle.cob_codec.specs.Readings.{keeping_zones}
 use Rattle.cob_codec.specs.declared.reading.Reading.{Reading}
 use Rattle.cob_codec.specs.Binary.{signed_number}
 use Rattle.cob_cp037.specs.Named.{space_byte}
@@ -45,10 +46,10 @@ GivesNumerals reading i bytes text =
     GivesDigits reading i bytes text ⊎ (((other : List ℕ) → GivesDigits reading i bytes other → ⊥) × (text ≡ bytes))
 
 -- The characters that an entry gives beside a group, or beside anything else: its bytes, and nothing is interpreted; but a number gives its digits
--- beside anything but a group.
+-- beside anything but a group. Any zones act not here: characters are compared as they are.
 abbrev pub GivesBeside : Bool → Kind → List ℕ → Reading → List ℕ → Type 0
 GivesBeside group Group bytes reading text = text ≡ bytes
-GivesBeside group (ItemKind i) bytes reading text = MatchBool (group || not (is_number i)) (text ≡ bytes) (GivesNumerals reading i bytes text)
+GivesBeside group (ItemKind i) bytes reading text = MatchBool (group || not (is_number i)) (text ≡ bytes) (GivesNumerals (keeping_zones reading) i bytes text)
 
 -- The characters that two operands give beside each other. A figurative constant, or ALL and a literal, is repeated to as many characters as the other
 -- gives. Two constants are not compared.

@@ -44,7 +44,7 @@ fn item_beside<'a>(group: bool, item: &Item, bytes: &'a [u8], reading: Reading) 
     if group || !is_number(item) {
         return Characters::Bytes(bytes);
     }
-    match read_sent(reading, item, bytes) {
+    match read_sent(reading.keeping_zones(), item, bytes) {
         Some(number) => Characters::Digits(numerals_to_point(&number)),
         None => Characters::Bytes(bytes),
     }

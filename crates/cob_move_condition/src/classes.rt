@@ -1,13 +1,16 @@
 //! Whether entries are of a class.
 
 ghost use Rattle.std.specs.Prelude.{◌≡◌, ◌↔◌, true, IsTrue};
-ghost use Rattle.cob_move_receive.specs.Sent.{HasAllBytes, sent};
+ghost use Rattle.cob_codec.specs.Readings.{keeping_zones};
+ghost use Rattle.cob_move_receive.specs.Sent.{HasAllBytes, Entry, sent};
 ghost use Rattle.cob_move_condition.specs.Classes.{AreOfClass, IsInClass, IsOfLetters, is_capital, is_class_byte, is_from, is_small};
 ghost use Rattle.cob_move_condition.specs.declared.class.Class.TheVariants.{Numeric};
 
 use crate::class::Class;
 use crate::comparable::{is_number_operand, kind_of};
 use crate::comparing::number_of_operand;
+use cob_codec::Reading;
+use cob_copybook_tree::Kind;
 use cob_cp037::{NINE, SPACE, ZERO};
 use cob_move_receive::Sent;
 
@@ -51,6 +54,17 @@ fn are_of_class(class: Class, bytes: &[u8]) -> bool
     bytes.iter().all(|byte| is_class_byte(class, *byte))
 }
 
+/// What an entry gives where its zones are read strictly.
+fn as_it_stands<'a>(kind: &'a Kind, bytes: &'a [u8], reading: Reading) -> Sent<'a>
+    ensures { sent result ≡ Entry kind.now bytes.now (keeping_zones reading) }
+{
+    Sent::Entry {
+        kind,
+        bytes,
+        reading: reading.keeping_zones(),
+    }
+}
+
 /// Whether what an operand gives is numeric.
 fn is_numeric(given: &Sent<'_>) -> bool
     requires { HasAllBytes (sent given.now) }
@@ -58,9 +72,13 @@ fn is_numeric(given: &Sent<'_>) -> bool
 {
     match given {
         Sent::Constant(_) => false,
-        Sent::Entry { bytes, .. } => {
+        Sent::Entry {
+            kind,
+            bytes,
+            reading,
+        } => {
             if is_number_operand(&kind_of(given)) {
-                number_of_operand(given).is_some()
+                number_of_operand(&as_it_stands(kind, bytes, *reading)).is_some()
             } else {
                 are_of_class(Class::Numeric, bytes)
             }

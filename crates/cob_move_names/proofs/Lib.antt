@@ -9,3 +9,4 @@ pub mod OperandLemmas
 pub mod PartnerLemmas
 pub mod NumberLemmas
 pub mod KeptLemmas
+pub mod ValuedLemmas

@@ -10,6 +10,7 @@ use Rattle.cob_layout_places.specs.Counts.{kind_in}
 use Rattle.cob_layout_places.specs.Cover.{AreNumbered}
 use Rattle.cob_layout_places.specs.Places.{choose, is_table, later, or_else}
 use Rattle.cob_layout_places.specs.References.{IsSubscripted, Refers}
+use Rattle.cob_copybook.specs.Books.{IsRecordDescription}
 use Rattle.cob_layout.specs.Sound.{RecordsAreSound}
 use Rattle.cob_layout.specs.Kept.{IsIn}
 use Rattle.cob_move_data.specs.declared.operands.Side.{Side}
@@ -166,6 +167,18 @@ operand_in side t c texts s h = record {
 
 of_side : (records : Records) (side mine : Side) (o p : Operand) → side ≡ mine → o ≡ p → IsOperand (record_of records mine) p → IsOperand (record_of records side) o
 of_side records side mine o p e f h = subst (λ (s : Side). IsOperand (record_of records s) o) (sym e) (subst (IsOperand (record_of records mine)) (sym f) h)
+
+-- an entry of the records with subscripts is an operand
+pub of_candidate : RecordsAreSound → (records : Records) (c : Candidate) (texts : List (List ℕ)) → IsRecordDescription records.input → IsRecordDescription records.output
+    → IsIn c (all_entries records.input records.output) → AreSubscriptsOf c.entry.tables texts → IsOperand (record_of records c.entry.side) (operand c (subscript_numbers texts))
+of_candidate sound records c texts input output o h =
+    let p : Operand = operand c (subscript_numbers texts) in
+    elim (one_of c (candidates In [] [] records.input) (candidates Out [] [] records.output) o) [
+      | inl x ↦ (let s = stands In [] 0 [] records.input c (sound records.input input).numbered x in
+          of_side records c.entry.side In p p (sym s.side_is) refl (operand_in In records.input c texts s h))
+      | inr x ↦ (let s = stands Out [] 0 [] records.output c (sound records.output output).numbered x in
+          of_side records c.entry.side Out p p (sym s.side_is) refl (operand_in Out records.output c texts s h))
+    ]
 
 pub are_operands : RecordsAreSound → NamedAreOperands
 are_operands sound records r side o input output h =

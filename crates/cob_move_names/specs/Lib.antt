@@ -1,6 +1,8 @@
 pub mod Candidates
+pub mod Valued
 pub mod Listed
 pub mod References
+pub mod Values
 pub mod Directory
 pub mod Laws
 pub mod Pairs

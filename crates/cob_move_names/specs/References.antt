@@ -10,7 +10,7 @@ use Rattle.cob_move_statements.specs.declared.fault.MoveRule.{MoveRule}
 use Rattle.cob_move_statements.specs.declared.fault.MoveRule.TheVariants as rule
 use Rattle.cob_move_statements.specs.Written.{WrittenReference}
 use Rattle.cob_copybook_names.specs.Naming.{named}
-use Rattle.cob_move_names.specs.Candidates.{Candidate}
+use Rattle.cob_move_names.specs.Candidates.{Candidate, RecordEntry}
 
 -- The number that a subscript's digits spell.
 abbrev pub subscript_number : List ℕ → ℕ
@@ -36,8 +36,12 @@ AreSubscriptsOf (most ∷ tables) [] = ⊥
 AreSubscriptsOf (most ∷ tables) (text ∷ texts) = IsSubscriptOf most text × AreSubscriptsOf tables texts
 
 -- An entry with subscripts.
+abbrev pub entry_operand : RecordEntry → List ℕ → Operand
+entry_operand e subscripts = record { entry = record { node = e.number; subscripts = record { items = subscripts } }; kind = e.kind }
+
+-- The same of an entry with its names.
 abbrev pub operand : Candidate → List ℕ → Operand
-operand c subscripts = record { entry = record { node = c.entry.number; subscripts = record { items = subscripts } }; kind = c.entry.kind }
+operand c subscripts = entry_operand c.entry subscripts
 
 -- A reference names an operand of this side's record: of all entries of the two records exactly one has its name and qualifiers, and its
 -- subscripts are those of that entry's tables.

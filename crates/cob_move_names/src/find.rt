@@ -1,19 +1,24 @@
 //! What a written reference names.
 
-ghost use Rattle.std.specs.Prelude.{◌≡◌, IfErr, IfNone, IfOk, IfSome, IsOkAnd};
+ghost use Rattle.std.specs.Prelude.{◌≡◌, [], IfErr, IfNone, IfOk, IfSome, IsOkAnd, OnOk};
 ghost use Rattle.cob_source.specs.Tokens.{lexemes};
 ghost use Rattle.cob_move_data.specs.declared.operands.Operand.{Operand as SeenOperand};
 ghost use Rattle.cob_move_data.specs.declared.operands.Side.TheVariants.{Out};
 ghost use Rattle.cob_move_statements.specs.Written.{word_texts, written_reference};
-ghost use Rattle.cob_move_names.specs.Candidates.{all_entries};
-ghost use Rattle.cob_move_names.specs.Directory.{FindsOnly, entries_named};
-ghost use Rattle.cob_move_names.specs.Listed.{candidate_of};
-ghost use Rattle.cob_move_names.specs.References.{AreSubscriptsOf, BreaksReceiver, BreaksReference, NamesOperand, operand, subscript_numbers};
+ghost use Rattle.cob_copybook_conditions.specs.Names.{plain_condition_names};
+ghost use Rattle.cob_move_names.specs.Candidates.{all_entries, candidates};
+ghost use Rattle.cob_move_names.specs.Directory.{FindsOnly, entries_named, operand_with_values, values_named};
+ghost use Rattle.cob_move_names.specs.Listed.{ListsMore, ListsValues, listed_record_entry};
+ghost use Rattle.cob_move_names.specs.References.{AreSubscriptsOf, BreaksReceiver, BreaksReference, NamesOperand, entry_operand, subscript_numbers};
+ghost use Rattle.cob_move_names.specs.Valued.{all_values, named_values, plain_names};
+ghost use Rattle.cob_move_names.specs.Values.{BreaksValues, NamesValues, conditions_of};
 
 use crate::candidate::{RecordEntry, list_tree};
 use crate::directory::Names;
 use crate::subscripts::read_subscripts;
+use crate::valued::{ConditionNames, ValuedEntry, list_values};
 use arrayvec::ArrayVec;
+use cob_copybook_conditions::{ConditionName, Span};
 use cob_copybook_names::Bearer;
 use cob_layout::{Layout, Ref, records_are_sound};
 use cob_move_data::{Operand, Side};
@@ -28,16 +33,24 @@ pub struct Named {
     pub operand: Operand,
 }
 
+/// The item of a condition-name, which is an operand of this side's record, and the values of the name: the first, and any more.
+#[derive(Drop)]
+pub struct NamedValues<'a> {
+    pub side: Side,
+    pub operand: Operand,
+    pub first: &'a Span,
+    pub more: &'a [Span],
+}
+
 /// An entry with its subscripts, if they are those of its tables.
-fn operand_of(candidate: &Bearer<'_, RecordEntry<'_>>, written: &[Token]) -> Option<Operand>
-    ensures found { IfSome result (λ o. o ≡ operand (candidate_of candidate.now)
+fn operand_of(named: &RecordEntry<'_>, written: &[Token]) -> Option<Operand>
+    ensures found { IfSome result (λ o. o ≡ entry_operand (listed_record_entry named.now)
         (subscript_numbers (word_texts (lexemes written.now)))) }
     ensures yes { IfSome result (λ o. AreSubscriptsOf
-        (candidate_of candidate.now).entry.tables (word_texts (lexemes written.now))) }
+        (listed_record_entry named.now).tables (word_texts (lexemes written.now))) }
     ensures no { IfNone result (AreSubscriptsOf
-        (candidate_of candidate.now).entry.tables (word_texts (lexemes written.now)) → ⊥) }
+        (listed_record_entry named.now).tables (word_texts (lexemes written.now)) → ⊥) }
 {
-    let named = &candidate.entry;
     let mut subscripts = ArrayVec::new();
     if !read_subscripts(named.tables.as_slice(), written, &mut subscripts) {
         return None;
@@ -51,21 +64,90 @@ fn operand_of(candidate: &Bearer<'_, RecordEntry<'_>>, written: &[Token]) -> Opt
     })
 }
 
+/// Puts the entries of a record behind those that are listed, and the condition-names of its copybook behind those.
+///
+/// # Errors
+///
+/// Memory for a list was refused.
+fn list_record<'a>(
+    alloc: Global,
+    side: Side,
+    layout: &'a Layout,
+    names: &'a [ConditionName],
+    entries: &mut Vec<Bearer<'a, RecordEntry<'a>>>,
+    values: &mut Vec<Bearer<'a, ValuedEntry<'a>>>,
+) -> Result<(), AllocError>
+    ensures entries { OnOk result (ListsMore entries.old.items entries.new.items
+        (candidates side [] [] layout.now)) }
+    ensures values { OnOk result (ListsValues values.old.items values.new.items
+        (named_values (candidates side [] [] layout.now) (plain_condition_names names.now))) }
+{
+    // For what `list_tree` and `list_values` ask: a record description is sound.
+    records_are_sound();
+    let before = entries.len();
+    list_tree(alloc, side, &[], &[], layout.root(), entries)?;
+    let (_, own) = entries.as_slice().split_at(before);
+    list_values(alloc, own, names, values)
+}
+
 impl<'a> Names<'a> {
-    /// The names of the entries of two records.
+    /// The names of the entries of two records, without condition-names.
     ///
     /// # Errors
     ///
     /// Memory for a list was refused.
     pub fn of(alloc: Global, input: &'a Layout, output: &'a Layout) -> Result<Names<'a>, AllocError>
-        ensures { IfOk result (λ names. entries_named names ≡ all_entries input.now output.now) }
+        ensures entries { IfOk result
+            (λ names. entries_named names ≡ all_entries input.now output.now) }
+        ensures values { IfOk result (λ names. values_named names ≡ []) }
     {
-        // For what `list_tree` asks: a record description is sound.
+        let none = ConditionNames {
+            input: &[],
+            output: &[],
+        };
+        Names::with_conditions(alloc, input, output, none)
+    }
+
+    /// The names of the entries of two records, and the condition-names of their copybooks.
+    ///
+    /// # Errors
+    ///
+    /// Memory for a list was refused.
+    pub fn with_conditions(
+        alloc: Global,
+        input: &'a Layout,
+        output: &'a Layout,
+        conditions: ConditionNames<'a>,
+    ) -> Result<Names<'a>, AllocError>
+        ensures entries { IfOk result
+            (λ names. entries_named names ≡ all_entries input.now output.now) }
+        ensures values { IfOk result (λ names. values_named names
+            ≡ all_values input.now output.now (plain_names conditions.entry)) }
+    {
+        // For what `listed` asks: the entries of a record description are numbered in order,
         records_are_sound();
+        // and both layouts are those of record descriptions.
+        let _ = input.root();
+        let _ = output.root();
         let mut entries = Vec::new(alloc);
-        list_tree(alloc, Side::In, &[], &[], input.root(), &mut entries)?;
-        list_tree(alloc, Side::Out, &[], &[], output.root(), &mut entries)?;
-        Names::listed(alloc, entries)
+        let mut values = Vec::new(alloc);
+        list_record(
+            alloc,
+            Side::In,
+            input,
+            conditions.input,
+            &mut entries,
+            &mut values,
+        )?;
+        list_record(
+            alloc,
+            Side::Out,
+            output,
+            conditions.output,
+            &mut entries,
+            &mut values,
+        )?;
+        Names::listed(alloc, entries, values)
     }
 
     /// What a written reference names.
@@ -85,7 +167,7 @@ impl<'a> Names<'a> {
             rule (entries_named self.now) (written_reference reference.now)) }
     {
         let candidate = self.only_named(reference.name, reference.qualifiers)?;
-        match operand_of(candidate, reference.subscripts) {
+        match operand_of(&candidate.entry, reference.subscripts) {
             Some(operand) => Ok(Named {
                 side: candidate.entry.side,
                 operand,
@@ -115,6 +197,40 @@ impl<'a> Names<'a> {
         match named.side {
             Side::In => Err(MoveRule::Receiver),
             Side::Out => Ok(named.operand),
+        }
+    }
+    /// What a written reference names as the name of a condition, if it names one: its item, and its values.
+    ///
+    /// # Errors
+    ///
+    /// `Ambiguous` where it names several condition-names, or an entry too; `Subscripts` where its subscripts aren't those of the item's tables.
+    pub fn find_values(
+        &self,
+        reference: &Reference<'_>,
+    ) -> Result<Option<NamedValues<'a>>, MoveRule>
+        // What is found is what the reference names.
+        ensures found { IfOk result (λ found. IfSome found (λ v. NamesValues
+            (entries_named self.now) (values_named self.now) (written_reference reference.now)
+            (operand_with_values v))) }
+        // Where nothing is found the reference names no condition-name.
+        ensures none { IfOk result (λ found. IfNone found
+            (conditions_of (values_named self.now) (written_reference reference.now) ≡ [])) }
+        // A refusal names a rule that is broken.
+        ensures fault { IfErr result (λ rule. BreaksValues rule
+            (entries_named self.now) (values_named self.now) (written_reference reference.now)) }
+    {
+        let named = self.valued_alone(reference.name, reference.qualifiers)?;
+        let Some(valued) = named else {
+            return Ok(None);
+        };
+        match operand_of(&valued.entry.item, reference.subscripts) {
+            Some(operand) => Ok(Some(NamedValues {
+                side: valued.entry.item.side,
+                operand,
+                first: valued.entry.first,
+                more: valued.entry.more,
+            })),
+            None => Err(MoveRule::Subscripts),
         }
     }
 }

@@ -15,6 +15,12 @@
 //!   one has the name with these qualifiers, and each of its tables has a subscript, a literal of at most 31 digits, from 1 to its greatest number.
 //!   What a reference names is found (`only`), and a refusal names a rule that is broken (`fault`, `BreaksReference`). Neither takes memory.
 //! - [`Names::find_receiver`] does the same in the output record: a receiver that stands in the input record is refused (`BreaksReceiver`).
+//! - [`Names::find_values`] answers the condition-name that a reference names, with its item and its values, if it names one (`found`, `NamesValues` of
+//!   specs/Values.antt): of all entries and condition-names of the two records exactly one has the name with these qualifiers, a condition-name, and the
+//!   subscripts are those of the item's tables. Where nothing is found no condition-name is named (`none`), and a refusal names a rule that is broken (`fault`,
+//!   `BreaksValues`). [`Names::with_conditions`] has the condition-names of two copybooks (`all_values` of specs/Valued.antt, which the view `values_named`
+//!   shows), [`Names::of`] has none. Laws: the item is an operand of its record ([`items_are_operands`]), a reference names the values of one condition at
+//!   most ([`one_valued`]) and then breaks no rule ([`valued_break_no_rule`]).
 //! - Laws: what is named is an operand of its record ([`named_are_operands`]), a reference names one operand at most ([`one_named`]) and then
 //!   breaks no rule ([`named_break_no_rule`]).
 //!
@@ -46,7 +52,8 @@
 //!
 //! # Where it is proved
 //!
-//! The clauses of `Names::find` and `find_receiver`; the laws `named_are_operands`, `one_named`, `named_break_no_rule`; the clauses `found`, `fault` of
+//! The clauses of `Names::find`, `find_receiver` and `find_values`; the laws `named_are_operands`, `one_named`, `named_break_no_rule`, `items_are_operands`,
+//! `one_valued`, `valued_break_no_rule`; the clauses `found`, `fault` of
 //! `pairs`; the clauses of `Correspondences::find` and `between`.
 #![tactic(auto)]
 
@@ -69,13 +76,18 @@ mod qualifiers;
 mod sending;
 mod subordinate;
 mod subscripts;
+mod valued;
 
 pub use correspondences::Correspondences;
 pub use directory::Names;
-pub use find::Named;
+pub use find::{Named, NamedValues};
 pub use groups::entries_below;
-pub use laws::{named_are_operands, named_break_no_rule, one_named};
+pub use laws::{
+    items_are_operands, named_are_operands, named_break_no_rule, one_named, one_valued,
+    valued_break_no_rule,
+};
 pub use pair::EntryPair;
 pub use pair_laws::subordinates_are_operands;
 pub use pairing::pairs;
 pub use subordinate::is_no_group;
+pub use valued::ConditionNames;

@@ -5,8 +5,9 @@ use Rattle.cob_picture.specs.Positions.{PlainPicture}
 use Rattle.cob_codec.specs.Zoned.{IsZoned, zoned_form}
 use Rattle.cob_codec.specs.Separate.{IsSignedSeparately, separate_form}
 use Rattle.cob_codec.specs.Packed.{IsPacked, packed_form}
+use Rattle.cob_codec.specs.Readings.{KeepsZones}
 use Rattle.cob_codec.specs.declared.reading.Reading.{Reading}
-use Rattle.cob_codec.specs.declared.reading.Reading.TheVariants.{Pictured, Whole}
+use Rattle.cob_codec.specs.declared.reading.Reading.TheVariants.{AnyZones, Pictured, Whole, WholeAnyZones}
 use Rattle.cob_copybook_tree.specs.declared.kinds.StorageKind.{StorageKind}
 use Rattle.cob_copybook_tree.specs.declared.kinds.StorageKind.TheVariants.{Zoned, Separate, Packed}
 use Rattle.cob_copybook_tree.specs.declared.node.Item.{Item}
@@ -21,24 +22,30 @@ use Rattle.cob_move_steps.specs.Steps.{IsItemReader, IsWriterFor, received_form}
 
 -- ---- readers
 
-sent_zoned : (reading : Reading) (leading : Bool) (p : PlainPicture) (n w : ℕ) (s : ℤ) (r : LaneReader) → IsReaderOf (IsZoned (digits p.positions) (signed p.positions) leading) n w s r → IsReaderOf (SentAs reading Zoned leading p) n w s r
-sent_zoned Pictured leading p n w s r h = h
-sent_zoned Whole leading p n w s r h = h
+sent_zoned : (reading : Reading) (leading : Bool) (p : PlainPicture) (n w : ℕ) (s : ℤ) (r : LaneReader) → IsReaderOf (IsZoned (digits p.positions) (signed p.positions) leading) n w s r → KeepsZones reading → IsReaderOf (SentAs reading Zoned leading p) n w s r
+sent_zoned Pictured leading p n w s r h keeps = h
+sent_zoned Whole leading p n w s r h keeps = h
+sent_zoned AnyZones leading p n w s r h keeps = absurd (cc)
+sent_zoned WholeAnyZones leading p n w s r h keeps = absurd (cc)
 
-sent_separate : (reading : Reading) (leading : Bool) (p : PlainPicture) (n w : ℕ) (s : ℤ) (r : LaneReader) → IsReaderOf (IsSignedSeparately (digits p.positions) leading) n w s r → IsReaderOf (SentAs reading Separate leading p) n w s r
-sent_separate Pictured leading p n w s r h = h
-sent_separate Whole leading p n w s r h = h
+sent_separate : (reading : Reading) (leading : Bool) (p : PlainPicture) (n w : ℕ) (s : ℤ) (r : LaneReader) → IsReaderOf (IsSignedSeparately (digits p.positions) leading) n w s r → KeepsZones reading → IsReaderOf (SentAs reading Separate leading p) n w s r
+sent_separate Pictured leading p n w s r h keeps = h
+sent_separate Whole leading p n w s r h keeps = h
+sent_separate AnyZones leading p n w s r h keeps = absurd (cc)
+sent_separate WholeAnyZones leading p n w s r h keeps = absurd (cc)
 
-sent_packed : (reading : Reading) (leading : Bool) (p : PlainPicture) (n w : ℕ) (s : ℤ) (r : LaneReader) → IsReaderOf (IsPacked (digits p.positions) (signed p.positions)) n w s r → IsReaderOf (SentAs reading Packed leading p) n w s r
-sent_packed Pictured leading p n w s r h = h
-sent_packed Whole leading p n w s r h = h
+sent_packed : (reading : Reading) (leading : Bool) (p : PlainPicture) (n w : ℕ) (s : ℤ) (r : LaneReader) → IsReaderOf (IsPacked (digits p.positions) (signed p.positions)) n w s r → KeepsZones reading → IsReaderOf (SentAs reading Packed leading p) n w s r
+sent_packed Pictured leading p n w s r h keeps = h
+sent_packed Whole leading p n w s r h keeps = h
+sent_packed AnyZones leading p n w s r h keeps = absurd (cc)
+sent_packed WholeAnyZones leading p n w s r h keeps = absurd (cc)
 
 -- the reader of a form, at the item's length, is that of the item
 as_item : (i : Item) (f : StorageKind) (count n w : ℕ) (s : ℤ) (r : LaneReader) → storage_kind i ≡ f → item_size i ≡ size_as (storage_kind i) count → size_as f count ≡ n
-    → ((reading : Reading) → IsReaderOf (SentAs reading f (is_leading i.sign) i.picture) n w s r) → IsItemReader i w s r
-as_item i f count n w s r form size many h = λ reading.
+    → ((reading : Reading) → KeepsZones reading → IsReaderOf (SentAs reading f (is_leading i.sign) i.picture) n w s r) → IsItemReader i w s r
+as_item i f count n w s r form size many h = λ reading keeps.
     let e : n ≡ item_size i = sym (size ∙ ap (λ g. size_as g count) form ∙ many) in
-    let a : IsReaderOf (SentAs reading (storage_kind i) (is_leading i.sign) i.picture) n w s r = subst (λ g. IsReaderOf (SentAs reading g (is_leading i.sign) i.picture) n w s r) (sym form) (h reading) in
+    let a : IsReaderOf (SentAs reading (storage_kind i) (is_leading i.sign) i.picture) n w s r = subst (λ g. IsReaderOf (SentAs reading g (is_leading i.sign) i.picture) n w s r) (sym form) (h reading keeps) in
     subst (λ m. IsReaderOf (IsSentBy reading i) m w s r) e a
 
 pub zoned_reader : (i : Item) (count : ℕ) (sign leading : Bool) (w : ℕ) (s : ℤ) (r : LaneReader) → storage_kind i ≡ Zoned → item_size i ≡ size_as (storage_kind i) count → count ≡ digits i.picture.positions → sign ≡ signed i.picture.positions → leading ≡ is_leading i.sign
@@ -65,8 +72,8 @@ packed_reader i count sign w s r form size many has h =
 
 -- the same, where the digits that are wanted are another's
 pub reader_as : (i : Item) (w v : ℕ) (s z : ℤ) (r : LaneReader) → w ≡ v → s ≡ z → IsItemReader i w s r → IsItemReader i v z r
-reader_as i w v s z r wanted shift h = λ reading.
-    subst (λ x. IsReaderOf (IsSentBy reading i) (item_size i) v x r) shift (subst (λ m. IsReaderOf (IsSentBy reading i) (item_size i) m s r) wanted (h reading))
+reader_as i w v s z r wanted shift h = λ reading keeps.
+    subst (λ x. IsReaderOf (IsSentBy reading i) (item_size i) v x r) shift (subst (λ m. IsReaderOf (IsSentBy reading i) (item_size i) m s r) wanted (h reading keeps))
 
 -- ---- writers
 

@@ -5,8 +5,9 @@ use Rattle.cob_picture.specs.Positions.{PlainPicture}
 use Rattle.cob_codec.specs.Packed.{IsPacked}
 use Rattle.cob_codec.specs.Separate.{IsSignedSeparately, separate_form}
 use Rattle.cob_codec.specs.Zoned.{IsZoned, zoned_form}
+use Rattle.cob_codec.specs.Readings.{KeepsZones}
 use Rattle.cob_codec.specs.declared.reading.Reading.{Reading}
-use Rattle.cob_codec.specs.declared.reading.Reading.TheVariants.{Pictured, Whole}
+use Rattle.cob_codec.specs.declared.reading.Reading.TheVariants.{AnyZones, Pictured, Whole, WholeAnyZones}
 use Rattle.cob_copybook_tree.specs.declared.kinds.StorageKind.{StorageKind}
 use Rattle.cob_copybook_tree.specs.declared.kinds.StorageKind.TheVariants.{Packed, Separate, Zoned}
 use Rattle.cob_copybook_tree.specs.declared.node.Item.{Item}
@@ -27,40 +28,46 @@ OfItems = (List ℕ → Bool → List ℕ → Type 0) → ℕ → Type 0
 
 -- what holds of a form, at the item's length, holds of the item however it is sent
 of_item : (P : OfItems) (i : Item) (f : StorageKind) (count n : ℕ) → storage_kind i ≡ f → item_size i ≡ size_as (storage_kind i) count → size_as f count ≡ n
-    → ((reading : Reading) → P (SentAs reading f (is_leading i.sign) i.picture) n) → (reading : Reading) → P (IsSentBy reading i) (item_size i)
-of_item P i f count n form size many h reading =
+    → ((reading : Reading) → KeepsZones reading → P (SentAs reading f (is_leading i.sign) i.picture) n) → (reading : Reading) → KeepsZones reading → P (IsSentBy reading i) (item_size i)
+of_item P i f count n form size many h reading keeps =
     let e : n ≡ item_size i = sym (size ∙ ap (λ g. size_as g count) form ∙ many) in
-    let a : P (SentAs reading (storage_kind i) (is_leading i.sign) i.picture) n = subst (λ (g : StorageKind). P (SentAs reading g (is_leading i.sign) i.picture) n) (sym form) (h reading) in
+    let a : P (SentAs reading (storage_kind i) (is_leading i.sign) i.picture) n = subst (λ (g : StorageKind). P (SentAs reading g (is_leading i.sign) i.picture) n) (sym form) (h reading keeps) in
     subst (λ m. P (IsSentBy reading i) m) e a
 
-sent_zoned : (P : OfItems) (leading : Bool) (p : PlainPicture) (n : ℕ) → P (IsZoned (digits p.positions) (signed p.positions) leading) n → (reading : Reading) → P (SentAs reading Zoned leading p) n
-sent_zoned P leading p n h Pictured = h
-sent_zoned P leading p n h Whole = h
+sent_zoned : (P : OfItems) (leading : Bool) (p : PlainPicture) (n : ℕ) → P (IsZoned (digits p.positions) (signed p.positions) leading) n → (reading : Reading) → KeepsZones reading → P (SentAs reading Zoned leading p) n
+sent_zoned P leading p n h Pictured keeps = h
+sent_zoned P leading p n h Whole keeps = h
+sent_zoned P leading p n h AnyZones keeps = absurd (cc)
+sent_zoned P leading p n h WholeAnyZones keeps = absurd (cc)
 
-sent_separate : (P : OfItems) (leading : Bool) (p : PlainPicture) (n : ℕ) → P (IsSignedSeparately (digits p.positions) leading) n → (reading : Reading) → P (SentAs reading Separate leading p) n
-sent_separate P leading p n h Pictured = h
-sent_separate P leading p n h Whole = h
+sent_separate : (P : OfItems) (leading : Bool) (p : PlainPicture) (n : ℕ) → P (IsSignedSeparately (digits p.positions) leading) n → (reading : Reading) → KeepsZones reading → P (SentAs reading Separate leading p) n
+sent_separate P leading p n h Pictured keeps = h
+sent_separate P leading p n h Whole keeps = h
+sent_separate P leading p n h AnyZones keeps = absurd (cc)
+sent_separate P leading p n h WholeAnyZones keeps = absurd (cc)
 
-sent_packed : (P : OfItems) (leading : Bool) (p : PlainPicture) (n : ℕ) → P (IsPacked (digits p.positions) (signed p.positions)) n → (reading : Reading) → P (SentAs reading Packed leading p) n
-sent_packed P leading p n h Pictured = h
-sent_packed P leading p n h Whole = h
+sent_packed : (P : OfItems) (leading : Bool) (p : PlainPicture) (n : ℕ) → P (IsPacked (digits p.positions) (signed p.positions)) n → (reading : Reading) → KeepsZones reading → P (SentAs reading Packed leading p) n
+sent_packed P leading p n h Pictured keeps = h
+sent_packed P leading p n h Whole keeps = h
+sent_packed P leading p n h AnyZones keeps = absurd (cc)
+sent_packed P leading p n h WholeAnyZones keeps = absurd (cc)
 
 pub zoned_item : (P : OfItems) (i : Item) (count : ℕ) (sign leading : Bool) → storage_kind i ≡ Zoned → item_size i ≡ size_as (storage_kind i) count → count ≡ digits i.picture.positions → sign ≡ signed i.picture.positions → leading ≡ is_leading i.sign
-    → P (IsZoned count sign leading) count → (reading : Reading) → P (IsSentBy reading i) (item_size i)
+    → P (IsZoned count sign leading) count → (reading : Reading) → KeepsZones reading → P (IsSentBy reading i) (item_size i)
 zoned_item P i count sign leading form size many has lead h =
     let a : P (IsZoned count (signed i.picture.positions) (is_leading i.sign)) count = subst (λ b. P (IsZoned count b (is_leading i.sign)) count) has (subst (λ b. P (IsZoned count sign b) count) lead h) in
     let b : P (IsZoned (digits i.picture.positions) (signed i.picture.positions) (is_leading i.sign)) count = subst (λ n. P (IsZoned n (signed i.picture.positions) (is_leading i.sign)) count) many a in
     of_item P i Zoned count count form size refl (sent_zoned P (is_leading i.sign) i.picture count b)
 
 pub separate_item : (P : OfItems) (i : Item) (count : ℕ) (leading : Bool) → storage_kind i ≡ Separate → item_size i ≡ size_as (storage_kind i) count → count ≡ digits i.picture.positions → leading ≡ is_leading i.sign
-    → P (IsSignedSeparately count leading) (count + 1) → (reading : Reading) → P (IsSentBy reading i) (item_size i)
+    → P (IsSignedSeparately count leading) (count + 1) → (reading : Reading) → KeepsZones reading → P (IsSentBy reading i) (item_size i)
 separate_item P i count leading form size many lead h =
     let a : P (IsSignedSeparately count (is_leading i.sign)) (count + 1) = subst (λ b. P (IsSignedSeparately count b) (count + 1)) lead h in
     let b : P (IsSignedSeparately (digits i.picture.positions) (is_leading i.sign)) (count + 1) = subst (λ n. P (IsSignedSeparately n (is_leading i.sign)) (count + 1)) many a in
     of_item P i Separate count (count + 1) form size refl (sent_separate P (is_leading i.sign) i.picture (count + 1) b)
 
 pub packed_item : (P : OfItems) (i : Item) (count : ℕ) (sign : Bool) → storage_kind i ≡ Packed → item_size i ≡ size_as (storage_kind i) count → count ≡ digits i.picture.positions → sign ≡ signed i.picture.positions
-    → P (IsPacked count sign) (count / 2 + 1) → (reading : Reading) → P (IsSentBy reading i) (item_size i)
+    → P (IsPacked count sign) (count / 2 + 1) → (reading : Reading) → KeepsZones reading → P (IsSentBy reading i) (item_size i)
 packed_item P i count sign form size many has h =
     let a : P (IsPacked count (signed i.picture.positions)) (count / 2 + 1) = subst (λ b. P (IsPacked count b) (count / 2 + 1)) has h in
     let b : P (IsPacked (digits i.picture.positions) (signed i.picture.positions)) (count / 2 + 1) = subst (λ n. P (IsPacked n (signed i.picture.positions)) (count / 2 + 1)) many a in

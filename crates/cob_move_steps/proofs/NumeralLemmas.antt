@@ -11,8 +11,9 @@ use Rattle.cob_decimal.proofs.DecimalLemmas.{number_of-lt, one_list}
 use Rattle.cob_picture.specs.Counts.{digits, scale, signed}
 use Rattle.cob_picture.specs.Positions.{PlainPicture, shows_number}
 use Rattle.cob_codec.specs.Sign.{IsHeld}
+use Rattle.cob_codec.specs.Readings.{KeepsZones}
 use Rattle.cob_codec.specs.declared.reading.Reading.{Reading}
-use Rattle.cob_codec.specs.declared.reading.Reading.TheVariants.{Pictured, Whole}
+use Rattle.cob_codec.specs.declared.reading.Reading.TheVariants.{AnyZones, Pictured, Whole, WholeAnyZones}
 use Rattle.cob_copybook_tree.specs.declared.kinds.StorageKind.{StorageKind}
 use Rattle.cob_copybook_tree.specs.declared.kinds.StorageKind.TheVariants as kind
 use Rattle.cob_copybook_tree.specs.declared.node.Item.{Item}
@@ -59,17 +60,19 @@ kept_own count s ds kept few many valid held =
 
 -- ---- how many they are
 
-pictured_as : (reading : Reading) (f : StorageKind) (leading : Bool) (p : PlainPicture) (bytes : List ℕ) (negative : Bool) (ds : List ℕ) → (is_read_whole f ≡ true → reading ≡ Pictured) → SentAs reading f leading p bytes negative ds
+pictured_as : (reading : Reading) (f : StorageKind) (leading : Bool) (p : PlainPicture) (bytes : List ℕ) (negative : Bool) (ds : List ℕ) → KeepsZones reading → (is_read_whole f ≡ true → reading ≡ Pictured) → SentAs reading f leading p bytes negative ds
     → RepresentsAs f leading p bytes negative ds
-pictured_as Pictured f leading p bytes negative ds suits sent = sent
-pictured_as Whole kind.Zoned leading p bytes negative ds suits sent = sent
-pictured_as Whole kind.Separate leading p bytes negative ds suits sent = sent
-pictured_as Whole kind.Packed leading p bytes negative ds suits sent = sent
-pictured_as Whole kind.Binary leading p bytes negative ds suits sent = let other : Whole ≡ Pictured = suits refl in absurd (cc)
+pictured_as Pictured f leading p bytes negative ds keeps suits sent = sent
+pictured_as Whole kind.Zoned leading p bytes negative ds keeps suits sent = sent
+pictured_as Whole kind.Separate leading p bytes negative ds keeps suits sent = sent
+pictured_as Whole kind.Packed leading p bytes negative ds keeps suits sent = sent
+pictured_as Whole kind.Binary leading p bytes negative ds keeps suits sent = let other : Whole ≡ Pictured = suits refl in absurd (cc)
+pictured_as AnyZones f leading p bytes negative ds keeps suits sent = absurd (cc)
+pictured_as WholeAnyZones f leading p bytes negative ds keeps suits sent = absurd (cc)
 
 pub sent_long : (i : Item) (reading : Reading) (bytes : List ℕ) (negative : Bool) (ds : List ℕ) → IsNumberItem i → SuitsReading i reading → IsSentBy reading i bytes negative ds → length ds ≡ item_digits i
 sent_long i reading bytes negative ds n suits sent =
-    let there : Represents i bytes negative ds = pictured_as reading (storage_kind i) (is_leading i.sign) i.picture bytes negative ds suits sent in
+    let there : Represents i bytes negative ds = pictured_as reading (storage_kind i) (is_leading i.sign) i.picture bytes negative ds suits.0 suits.1 sent in
     let held : IsHeld (digits i.picture.positions) (signed i.picture.positions) negative ds = item_laws.holds i bytes negative ds n there in
     held.count_is
 

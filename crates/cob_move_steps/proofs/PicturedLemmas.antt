@@ -48,12 +48,12 @@ pictured_by holds k size bytes outcome occupied between within same h =
 pub pictured_received : (k : MoveKinds) (step : AnyNumberStep) (size : ℕ) (bytes : List ℕ) (outcome : Option (List ℕ)) → AreOccupied k → BetweenItems (MovesPictured step) k.sender k.receiver → k.sent ≤ length bytes
     → size ≡ k.received → IsAnyNumberCarriedOut step bytes size outcome → IsReceivedPictured k bytes outcome
 pictured_received k step size bytes outcome occupied between within same h =
-    pictured_by (MovesPictured step) k size bytes outcome occupied between within same (λ from to is fits long. h from to is fits long Pictured (λ binary. refl))
+    pictured_by (MovesPictured step) k size bytes outcome occupied between within same (λ from to is fits long. h from to is fits long Pictured (refl, λ binary. refl))
 
 pub pictured_edited_received : (k : MoveKinds) (step : EditStep) (size : ℕ) (bytes : List ℕ) (outcome : Option (List ℕ)) → AreOccupied k → BetweenItems (MovesPicturedToEdited step) k.sender k.receiver
     → k.sent ≤ length bytes → size ≡ k.received → IsEditCarriedOut step bytes size outcome → IsReceivedPictured k bytes outcome
 pictured_edited_received k step size bytes outcome occupied between within same h =
-    pictured_by (MovesPicturedToEdited step) k size bytes outcome occupied between within same (λ from to is fits long. h from to is fits long Pictured (λ binary. refl))
+    pictured_by (MovesPicturedToEdited step) k size bytes outcome occupied between within same (λ from to is fits long. h from to is fits long Pictured (refl, λ binary. refl))
 
 pub few_pictured_wide_edited : (k : MoveKinds) (step : WideEditStep) (size : ℕ) → AreOccupied k → BetweenItems (MovesPicturedToWideEdited step) k.sender k.receiver → size ≡ k.received → size ≤ 32
 few_pictured_wide_edited k step size occupied between same =
@@ -62,14 +62,14 @@ few_pictured_wide_edited k step size occupied between same =
 pub pictured_wide_edited_received : (k : MoveKinds) (step : WideEditStep) (size : ℕ) (bytes : List ℕ) (outcome : Option (List ℕ)) → AreOccupied k → BetweenItems (MovesPicturedToWideEdited step) k.sender k.receiver
     → k.sent ≤ length bytes → size ≡ k.received → IsWideEditCarriedOut step bytes size outcome → IsReceivedPictured k bytes outcome
 pictured_wide_edited_received k step size bytes outcome occupied between within same h =
-    pictured_by (MovesPicturedToWideEdited step) k size bytes outcome occupied between within same (λ from to is fits long. h from to is fits long Pictured (λ binary. refl))
+    pictured_by (MovesPicturedToWideEdited step) k size bytes outcome occupied between within same (λ from to is fits long. h from to is fits long Pictured (refl, λ binary. refl))
 
 pub pictured_numerals_received : (k : MoveKinds) (step : NumeralsStep) (size : ℕ) (bytes : List ℕ) (outcome : Option (List ℕ)) → AreOccupied k → BetweenItems (MovesPicturedToNumerals step) k.sender k.receiver
     → k.sent ≤ length bytes → size ≡ k.received → IsNumeralsCarriedOut step bytes size outcome → IsReceivedPictured k bytes outcome
 pictured_numerals_received k step size bytes outcome occupied between within same h =
-    pictured_by (MovesPicturedToNumerals step) k size bytes outcome occupied between within same (λ from to is fits long. h from to is fits long Pictured (λ binary. refl))
+    pictured_by (MovesPicturedToNumerals step) k size bytes outcome occupied between within same (λ from to is fits long. h from to is fits long Pictured (refl, λ binary. refl))
 
 pub pictured_long_received : (k : MoveKinds) (step : LongStep) (size : ℕ) (bytes : List ℕ) (outcome : Option (List ℕ)) → AreOccupied k → BetweenItems (MovesPicturedLong step) k.sender k.receiver
     → k.sent ≤ length bytes → size ≡ k.received → IsLongCarriedOut step bytes size outcome → IsReceivedPictured k bytes outcome
 pictured_long_received k step size bytes outcome occupied between within same h =
-    pictured_by (MovesPicturedLong step) k size bytes outcome occupied between within same (λ from to is fits long. h from to is fits long Pictured (λ binary. refl))
+    pictured_by (MovesPicturedLong step) k size bytes outcome occupied between within same (λ from to is fits long. h from to is fits long Pictured (refl, λ binary. refl))

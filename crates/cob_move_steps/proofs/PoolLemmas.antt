@@ -2,6 +2,7 @@
 use Rattle.std.proofs.Common.{◌≡◌, ◌≤◌, ℕ, false, List, [], ◌∷◌, ◌++◌, length, get_or, sym, ap, subst, ◌∙◌, arith, Option, Some, length-append, append-nil}
 use Rattle.std.proofs.lemmas.List.{get_or_append_left, get_or_push, get_or_read}
 use Rattle.cob_codec.specs.Binary.{binary_length}
+use Rattle.cob_codec.specs.Readings.{KeepsZones}
 use Rattle.cob_codec.specs.declared.reading.Reading.{Reading}
 use Rattle.cob_copybook_tree.specs.declared.node.Item.{Item}
 use Rattle.cob_copybook_tree.specs.declared.node.Kind.{Kind}
@@ -141,56 +142,56 @@ carried holds (ItemKind i) (ItemKind j) sent received bytes outcome reading send
     (h i j between (omega (arith, within, sends.0)) receives.0)
 
 received_by : (holds : Item → Item → Type 0) (k : MoveKinds) (size : ℕ) (bytes : List ℕ) (outcome : Option (List ℕ)) → AreOccupied k → BetweenItems holds k.sender k.receiver → k.sent ≤ length bytes
-    → size ≡ k.received → ((reading : Reading) → ItemsReceive holds bytes size outcome reading) → IsReceived k bytes outcome
-received_by holds k size bytes outcome occupied between within same h reading =
+    → size ≡ k.received → ((reading : Reading) → KeepsZones reading → ItemsReceive holds bytes size outcome reading) → IsReceived k bytes outcome
+received_by holds k size bytes outcome occupied between within same h reading keeps =
     carried holds k.sender k.receiver k.sent k.received bytes outcome reading occupied.sender occupied.receiver between within
-    (subst (λ (m : ℕ). ItemsReceive holds bytes m outcome reading) same (h reading))
+    (subst (λ (m : ℕ). ItemsReceive holds bytes m outcome reading) same (h reading keeps))
 
 pub number_received : (k : MoveKinds) (step : NumberStep) (size : ℕ) (bytes : List ℕ) (outcome : Option (List ℕ)) → AreOccupied k → BetweenItems (MovesNumber step) k.sender k.receiver → k.sent ≤ length bytes
     → size ≡ k.received → IsCarriedOut step bytes size outcome → IsReceived k bytes outcome
 number_received k step size bytes outcome occupied between within same h =
-    received_by (MovesNumber step) k size bytes outcome occupied between within same (λ reading from to is fits long. h from to is fits long reading)
+    received_by (MovesNumber step) k size bytes outcome occupied between within same (λ reading keeps from to is fits long. h from to is fits long reading keeps)
 
 pub wide_received : (k : MoveKinds) (step : WideStep) (size : ℕ) (bytes : List ℕ) (outcome : Option (List ℕ)) → AreOccupied k → BetweenItems (MovesWide step) k.sender k.receiver → k.sent ≤ length bytes
     → size ≡ k.received → IsWideCarriedOut step bytes size outcome → IsReceived k bytes outcome
 wide_received k step size bytes outcome occupied between within same h =
-    received_by (MovesWide step) k size bytes outcome occupied between within same (λ reading from to is fits long. h from to is fits long reading)
+    received_by (MovesWide step) k size bytes outcome occupied between within same (λ reading keeps from to is fits long. h from to is fits long reading keeps)
 
--- an item that is read in one way suits any reading
-suits : (from : Item) (reading : Reading) → is_read_whole (storage_kind from) ≡ false → SuitsReading from reading
-suits from reading other is = absurd (cc)
+-- an item that is read in one way suits any reading that keeps zones
+suits : (from : Item) (reading : Reading) → KeepsZones reading → is_read_whole (storage_kind from) ≡ false → SuitsReading from reading
+suits from reading keeps other = (keeps, λ is. absurd (cc))
 
 pub any_number_received : (k : MoveKinds) (step : AnyNumberStep) (size : ℕ) (bytes : List ℕ) (outcome : Option (List ℕ)) → AreOccupied k → BetweenItems (MovesAnyNumber step) k.sender k.receiver → k.sent ≤ length bytes
     → size ≡ k.received → IsAnyNumberCarriedOut step bytes size outcome → IsReceived k bytes outcome
 any_number_received k step size bytes outcome occupied between within same h =
-    received_by (MovesAnyNumber step) k size bytes outcome occupied between within same (λ reading from to is fits long. h from to is.1 fits long reading (suits from reading is.0))
+    received_by (MovesAnyNumber step) k size bytes outcome occupied between within same (λ reading keeps from to is fits long. h from to is.1 fits long reading (suits from reading keeps is.0))
 
 pub edited_received : (k : MoveKinds) (step : EditStep) (size : ℕ) (bytes : List ℕ) (outcome : Option (List ℕ)) → AreOccupied k → BetweenItems (MovesToEdited step) k.sender k.receiver → k.sent ≤ length bytes
     → size ≡ k.received → IsEditCarriedOut step bytes size outcome → IsReceived k bytes outcome
 edited_received k step size bytes outcome occupied between within same h =
-    received_by (MovesToEdited step) k size bytes outcome occupied between within same (λ reading from to is fits long. h from to is.1 fits long reading (suits from reading is.0))
+    received_by (MovesToEdited step) k size bytes outcome occupied between within same (λ reading keeps from to is fits long. h from to is.1 fits long reading (suits from reading keeps is.0))
 
 pub wide_edited_received : (k : MoveKinds) (step : WideEditStep) (size : ℕ) (bytes : List ℕ) (outcome : Option (List ℕ)) → AreOccupied k → BetweenItems (MovesToWideEdited step) k.sender k.receiver → k.sent ≤ length bytes
     → size ≡ k.received → IsWideEditCarriedOut step bytes size outcome → IsReceived k bytes outcome
 wide_edited_received k step size bytes outcome occupied between within same h =
-    received_by (MovesToWideEdited step) k size bytes outcome occupied between within same (λ reading from to is fits long. h from to is.1 fits long reading (suits from reading is.0))
+    received_by (MovesToWideEdited step) k size bytes outcome occupied between within same (λ reading keeps from to is fits long. h from to is.1 fits long reading (suits from reading keeps is.0))
 
 pub numerals_received : (k : MoveKinds) (step : NumeralsStep) (size : ℕ) (bytes : List ℕ) (outcome : Option (List ℕ)) → AreOccupied k → BetweenItems (MovesToNumerals step) k.sender k.receiver → k.sent ≤ length bytes
     → size ≡ k.received → IsNumeralsCarriedOut step bytes size outcome → IsReceived k bytes outcome
 numerals_received k step size bytes outcome occupied between within same h =
-    received_by (MovesToNumerals step) k size bytes outcome occupied between within same (λ reading from to is fits long. h from to is.1 fits long reading (suits from reading is.0))
+    received_by (MovesToNumerals step) k size bytes outcome occupied between within same (λ reading keeps from to is fits long. h from to is.1 fits long reading (suits from reading keeps is.0))
 
 pub long_received : (k : MoveKinds) (step : LongStep) (size : ℕ) (bytes : List ℕ) (outcome : Option (List ℕ)) → AreOccupied k → BetweenItems (MovesLong step) k.sender k.receiver → k.sent ≤ length bytes
     → size ≡ k.received → IsLongCarriedOut step bytes size outcome → IsReceived k bytes outcome
 long_received k step size bytes outcome occupied between within same h =
-    received_by (MovesLong step) k size bytes outcome occupied between within same (λ reading from to is fits long. h from to is.1 fits long reading (suits from reading is.0))
+    received_by (MovesLong step) k size bytes outcome occupied between within same (λ reading keeps from to is fits long. h from to is.1 fits long reading (suits from reading keeps is.0))
 
 pub text_received : (k : MoveKinds) (step : TextStep) (size : ℕ) (bytes : List ℕ) (outcome : Option (List ℕ)) → AreOccupied k → BetweenItems (MovesText step) k.sender k.receiver → k.sent ≤ length bytes
     → size ≡ k.received → IsTextCarriedOut step bytes size outcome → IsReceived k bytes outcome
 text_received k step size bytes outcome occupied between within same h =
-    received_by (MovesText step) k size bytes outcome occupied between within same (λ reading from to is fits long. h from to is fits long reading)
+    received_by (MovesText step) k size bytes outcome occupied between within same (λ reading keeps from to is fits long. h from to is fits long reading keeps)
 
 pub characters_received : (k : MoveKinds) (step : CharactersStep) (size : ℕ) (bytes written : List ℕ) → IsCharactersStep k.sender k.sent k.receiver step → size ≡ k.received
     → AreCharactersCarriedOut step bytes size written → IsReceived k bytes (Some written)
-characters_received k step size bytes written is same h reading =
+characters_received k step size bytes written is same h reading keeps =
     subst (λ (m : ℕ). Received (Entry k.sender (last_bytes k.sent bytes) reading) k.receiver m (Some written)) same (h k.sender k.receiver k.sent is reading)

@@ -6,6 +6,7 @@ use Rattle.cob_picture.specs.Counts.{digits, scale, signed}
 use Rattle.cob_picture.specs.Positions.{shows_number}
 use Rattle.cob_picture.specs.declared.category.Category.{Category}
 use Rattle.cob_picture.specs.declared.category.Category.TheVariants.{Alphabetic, Numeric, Alphanumeric, AlphanumericEdited, NumericEdited}
+use Rattle.cob_codec.specs.Readings.{KeepsZones}
 use Rattle.cob_codec.specs.declared.reading.Reading.{Reading}
 use Rattle.cob_copybook_tree.specs.declared.node.Item.{Item}
 use Rattle.cob_copybook_tree.specs.declared.node.Kind.TheVariants.{Item as ItemKind}
@@ -107,19 +108,19 @@ lanes_read represents size wanted shift r bytes kept told minus is within read =
     }
 
 -- what was read of the item at the end of bytes
-pub item_read : (from : Item) (reading : Reading) (wanted : ℕ) (shift : ℤ) (r : LaneReader) (bytes kept : List ℕ) (told minus : Bool) → IsItemReader from wanted shift r → item_size from ≤ length bytes → IsLanesRead r bytes told minus kept
+pub item_read : (from : Item) (reading : Reading) (wanted : ℕ) (shift : ℤ) (r : LaneReader) (bytes kept : List ℕ) (told minus : Bool) → IsItemReader from wanted shift r → KeepsZones reading → item_size from ≤ length bytes → IsLanesRead r bytes told minus kept
     → IsNumberRead (IsSentBy reading from (last_bytes (item_size from) bytes)) wanted shift told minus kept
-item_read from reading wanted shift r bytes kept told minus is within read = lanes_read (IsSentBy reading from) (item_size from) wanted shift r bytes kept told minus (is reading) within read
+item_read from reading wanted shift r bytes kept told minus is keeps within read = lanes_read (IsSentBy reading from) (item_size from) wanted shift r bytes kept told minus (is reading keeps) within read
 
-pub moved : (s r : Item) (step : NumberStep) (reading : Reading) (bytes : List ℕ) (told minus left zero_is : Bool) (kept made new : List ℕ) (n : ℕ) → IsNumberStep s r step → item_size s ≤ length bytes → n ≡ item_size r
+pub moved : (s r : Item) (step : NumberStep) (reading : Reading) (bytes : List ℕ) (told minus left zero_is : Bool) (kept made new : List ℕ) (n : ℕ) → IsNumberStep s r step → KeepsZones reading → item_size s ≤ length bytes → n ≡ item_size r
     → not told ≡ false → IsLanesRead step.reader bytes told minus kept → IsTrue zero_is ↔ AreZero kept → left ≡ (minus && not zero_is) → AreMade step.writer left kept made → new ≡ take n made
     → Received (Entry (ItemKind s) (last_bytes (item_size s) bytes) reading) (ItemKind r) n (outcome true new)
-moved s r step reading bytes told minus left zero_is kept made new n is within size number read zero left_is text front =
+moved s r step reading bytes told minus left zero_is kept made new n is keeps within size number read zero left_is text front =
     let item : List ℕ = last_bytes (item_size s) bytes in
-    let same : last_bytes (item_size s) read.window ≡ item = read.same (item_size s) (is.reader reading).fits within in
+    let same : last_bytes (item_size s) read.window ≡ item = read.same (item_size s) (is.reader reading keeps).fits within in
     let a : AreRead (IsSentBy reading s item) (digits r.picture.positions) (scale r.picture.positions -ℤ scale s.picture.positions) minus kept =
     subst (λ xs. AreRead (IsSentBy reading s xs) (digits r.picture.positions) (scale r.picture.positions -ℤ scale s.picture.positions) minus kept) same
-    ((is.reader reading).reads read.window kept minus read.vector (read.number (not_false told number)) read.taken) in
+    ((is.reader reading keeps).reads read.window kept minus read.vector (read.number (not_false told number)) read.taken) in
     let v : Amount = record { negative = a.negative; digits = a.digits; scale = scale s.picture.positions } in
     let gives : IsNumberIn reading s item v = record { represents = a.represented; point = refl } in
     let count : ℕ = digits r.picture.positions in
@@ -133,14 +134,14 @@ moved s r step reading bytes told minus left zero_is kept made new n is within s
       match_true (is_number r) (HoldsAligned r v new) (IsEdited r.picture r.blank v.negative v.digits v.scale new) (number_item r is.receives) h,
     )
 
-pub not_moved : (s r : Item) (step : NumberStep) (reading : Reading) (bytes : List ℕ) (told minus : Bool) (kept new : List ℕ) (n : ℕ) → IsNumberStep s r step → item_size s ≤ length bytes
+pub not_moved : (s r : Item) (step : NumberStep) (reading : Reading) (bytes : List ℕ) (told minus : Bool) (kept new : List ℕ) (n : ℕ) → IsNumberStep s r step → KeepsZones reading → item_size s ≤ length bytes
     → not told ≡ true → IsLanesRead step.reader bytes told minus kept → Received (Entry (ItemKind s) (last_bytes (item_size s) bytes) reading) (ItemKind r) n (outcome false new)
-not_moved s r step reading bytes told minus kept new n is within none read =
+not_moved s r step reading bytes told minus kept new n is keeps within none read =
     let item : List ℕ = last_bytes (item_size s) bytes in
-    let same : last_bytes (item_size s) read.window ≡ item = read.same (item_size s) (is.reader reading).fits within in
+    let same : last_bytes (item_size s) read.window ≡ item = read.same (item_size s) (is.reader reading keeps).fits within in
     match_true (shows_number r.picture.category) (GetsNumber (Entry (ItemKind s) item reading) r None) (GetsCharacters (Entry (ItemKind s) item reading) (ItemKind r) n None) (number_shows r (number_item r is.receives))
     (λ v gives.
     let number : IsNumberIn reading s item v = from_match (is_number s) (IsNumberIn reading s item v) (GivesUnder s.picture.category s item v) (number_item s is.sends) gives in
     let there : IsSentBy reading s (last_bytes (item_size s) read.window) v.negative v.digits = subst (λ xs. IsSentBy reading s xs v.negative v.digits) (sym same) number.represents in
-    let passed = (is.reader reading).passes read.window v.negative v.digits read.vector there in
+    let passed = (is.reader reading keeps).passes read.window v.negative v.digits read.vector there in
     read.nothing (not_true told none) passed.0 passed.1)

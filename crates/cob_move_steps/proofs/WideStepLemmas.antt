@@ -4,6 +4,7 @@ use Rattle.cob_decimal.specs.Decimal.{IsDigits, number_of, aligned}
 use Rattle.cob_picture.specs.Counts.{scale, signed}
 use Rattle.cob_picture.specs.Positions.{shows_number}
 use Rattle.cob_codec.specs.Packed.{packed_form}
+use Rattle.cob_codec.specs.Readings.{KeepsZones}
 use Rattle.cob_codec.specs.declared.reading.Reading.{Reading}
 use Rattle.cob_copybook_tree.specs.declared.kinds.StorageKind.TheVariants as kind
 use Rattle.cob_copybook_tree.specs.declared.node.Item.{Item}
@@ -53,26 +54,26 @@ packed_wide_writer i count sign w is size many has h =
 -- ---- carried out
 
 -- the digits that were taken of the item at the end of bytes, where they represent a number
-pub item_taken : (from : Item) (reading : Reading) (wanted : ℕ) (shift : ℤ) (r : LaneReader) (bytes kept digits : List ℕ) (negative : Bool) → IsItemReader from wanted shift r → item_size from ≤ length bytes
+pub item_taken : (from : Item) (reading : Reading) (wanted : ℕ) (shift : ℤ) (r : LaneReader) (bytes kept digits : List ℕ) (negative : Bool) → IsItemReader from wanted shift r → KeepsZones reading → item_size from ≤ length bytes
     → AreLanesTaken r bytes kept → IsSentBy reading from (last_bytes (item_size from) bytes) negative digits
     → (minus : Bool) × AreRead (IsSentBy reading from (last_bytes (item_size from) bytes)) wanted shift minus kept
-item_taken from reading wanted shift r bytes kept digits negative is within took there =
+item_taken from reading wanted shift r bytes kept digits negative is keeps within took there =
     let item : List ℕ = last_bytes (item_size from) bytes in
-    let same : last_bytes (item_size from) took.window ≡ item = took.same (item_size from) (is reading).fits within in
-    let passed = (is reading).passes took.window negative digits took.vector (subst (λ xs. IsSentBy reading from xs negative digits) (sym same) there) in
-    (passed.0, subst (λ xs. AreRead (IsSentBy reading from xs) wanted shift passed.0 kept) same ((is reading).reads took.window kept passed.0 took.vector passed.1 took.taken))
+    let same : last_bytes (item_size from) took.window ≡ item = took.same (item_size from) (is reading keeps).fits within in
+    let passed = (is reading keeps).passes took.window negative digits took.vector (subst (λ xs. IsSentBy reading from xs negative digits) (sym same) there) in
+    (passed.0, subst (λ xs. AreRead (IsSentBy reading from xs) wanted shift passed.0 kept) same ((is reading keeps).reads took.window kept passed.0 took.vector passed.1 took.taken))
 
-pub moved_wide : (s r : Item) (step : WideStep) (reading : Reading) (bytes front back text new : List ℕ) (told minus left zero_is : Bool) (n : ℕ) → OneSentNumber → IsWideStep s r step → item_size s ≤ length bytes → n ≡ item_size r
+pub moved_wide : (s r : Item) (step : WideStep) (reading : Reading) (bytes front back text new : List ℕ) (told minus left zero_is : Bool) (n : ℕ) → OneSentNumber → IsWideStep s r step → KeepsZones reading → item_size s ≤ length bytes → n ≡ item_size r
     → not told ≡ false → AreLanesTaken step.front bytes front
     → IsNumberRead (IsSentBy reading s (last_bytes (item_size s) bytes)) 16 (scale r.picture.positions -ℤ scale s.picture.positions) told minus back
     → IsTrue zero_is ↔ (AreZero front × AreZero back) → left ≡ (minus && not zero_is) → AreMadeOfBoth step.writer left front back text → new ≡ take n text
     → Received (Entry (ItemKind s) (last_bytes (item_size s) bytes) reading) (ItemKind r) n (outcome true new)
-moved_wide s r step reading bytes front back text new told minus left zero_is n one is within size number took read zero left_is made written =
+moved_wide s r step reading bytes front back text new told minus left zero_is n one is keeps within size number took read zero left_is made written =
     let item : List ℕ = last_bytes (item_size s) bytes in
     let count : ℕ = item_digits r in
     let shift : ℤ = scale r.picture.positions -ℤ scale s.picture.positions in
     let b : AreRead (IsSentBy reading s item) 16 shift minus back = read.number (not_false told number) in
-    let both = item_taken s reading (count - 16) (shift -ℤ pos 16) step.front bytes front b.digits b.negative is.front within took b.represented in
+    let both = item_taken s reading (count - 16) (shift -ℤ pos 16) step.front bytes front b.digits b.negative is.front keeps within took b.represented in
     let f : AreRead (IsSentBy reading s item) (count - 16) (shift -ℤ pos 16) both.0 front = both.1 in
     let same = one reading s item f.negative b.negative f.digits b.digits f.represented b.represented in
     let leads : AreWanted (count - 16) (shift -ℤ pos 16) (number_of b.digits) front = subst (λ ds. AreWanted (count - 16) (shift -ℤ pos 16) (number_of ds) front) same.1 f.held in

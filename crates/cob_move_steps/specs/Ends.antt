@@ -3,6 +3,7 @@ use Rattle.std.specs.Prelude.{◌≡◌, ◌⊎◌, ◌≤◌, ◌-ℤ◌, ℕ, 
 use Rattle.cob_decimal.specs.Decimal.{number_of}
 use Rattle.cob_picture.specs.Counts.{digits, scale, signed}
 use Rattle.cob_picture.specs.declared.category.Category.TheVariants.{Alphanumeric}
+use Rattle.cob_codec.specs.Readings.{KeepsZones}
 use Rattle.cob_codec.specs.declared.reading.Reading.{Reading}
 use Rattle.cob_codec.specs.declared.reading.Reading.TheVariants.{Pictured}
 use Rattle.cob_copybook_tree.specs.declared.node.Item.{Item}
@@ -101,9 +102,9 @@ pub record IsNumberWriterFor (to : Item) (w : NumberWriter) : Type 0 where
   pub few : item_digits to ≤ 16
   pub own : IsOwnWriter to w
 
--- A sender of which reading it whole differs is read as its picture says.
+-- No sender is read by any zones, and one of which reading it whole differs as its picture says.
 abbrev pub SuitsReading : Item → Reading → Type 0
-SuitsReading from reading = is_read_whole (storage_kind from) ≡ true → reading ≡ Pictured
+SuitsReading from reading = KeepsZones reading × (is_read_whole (storage_kind from) ≡ true → reading ≡ Pictured)
 
 -- What was read of the item at the end of bytes, for each two items whose reader this is.
 abbrev pub IsItemRead : NumberReader → List ℕ → (is_number minus : Bool) → List ℕ → Type 0

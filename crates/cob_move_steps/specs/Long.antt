@@ -3,6 +3,7 @@ use Rattle.std.specs.Prelude.{◌≡◌, ◌⊎◌, ℕ, ◌-◌, ◌<◌, ◌�
 use Rattle.cob_decimal.specs.Decimal.{number_of}
 use Rattle.cob_picture.specs.Counts.{scale, signed}
 use Rattle.cob_picture.specs.declared.category.Category.TheVariants.{Alphanumeric}
+use Rattle.cob_codec.specs.Readings.{KeepsZones}
 use Rattle.cob_codec.specs.declared.reading.Reading.{Reading}
 use Rattle.cob_copybook_tree.specs.declared.kinds.StorageKind.TheVariants.{Binary}
 use Rattle.cob_copybook_tree.specs.declared.node.Item.{Item}
@@ -54,20 +55,20 @@ SendsLong i = IsNumberItem i ⊎ IsCharacterNumber i
 abbrev pub SendsAnyLong : Item → Type 0
 SendsAnyLong i = SendsLong i ⊎ IsLongEditedItem i
 
--- The reader reads a number's item of at most sixteen bytes, however it is sent.
+-- The reader reads a number's item of at most sixteen bytes, however it is sent but by any zones.
 pub record IsPairReaderFor (from : Item) (r : PairReader) : Type 0 where
   pub number : IsNumberItem from
-  pub reads : (reading : Reading) → IsPairReaderOf (IsSentBy reading from) (item_size from) r
+  pub reads : (reading : Reading) → KeepsZones reading → IsPairReaderOf (IsSentBy reading from) (item_size from) r
 
 -- The reader reads the numbers that the characters of an item are, at most sixteen.
 pub record IsNumeralPairFor (from : Item) (r : PairReader) : Type 0 where
   pub characters : IsCharacterNumber from
   pub reads : IsPairReaderOf (AreNumeralsOf (item_size from)) (item_size from) r
 
--- The reader reads a number's item that has a byte for each digit, however it is sent.
+-- The reader reads a number's item that has a byte for each digit, however it is sent but by any zones.
 pub record AreDigitsReadFor (from : Item) (r : DigitReader) : Type 0 where
   pub number : IsNumberItem from
-  pub reads : (reading : Reading) → IsDigitReaderOf (IsSentBy reading from) (item_size from) r
+  pub reads : (reading : Reading) → KeepsZones reading → IsDigitReaderOf (IsSentBy reading from) (item_size from) r
 
 -- The reader reads the numbers that the characters of an item are, sixteen and more.
 pub record AreNumeralsReadFor (from : Item) (r : DigitReader) : Type 0 where

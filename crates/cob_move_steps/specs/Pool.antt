@@ -1,5 +1,6 @@
 -- What carries out single moves between entries, by what these describe.
 use Rattle.std.specs.Prelude.{◌≡◌, ◌⊎◌, ◌<◌, ◌≤◌, ℕ, false, true, List, length, get_or, Option, Some}
+use Rattle.cob_codec.specs.Readings.{KeepsZones}
 use Rattle.cob_codec.specs.declared.reading.Reading.{Reading}
 use Rattle.cob_copybook_tree.specs.declared.node.Item.{Item}
 use Rattle.cob_copybook_tree.specs.declared.node.Kind.{Kind}
@@ -43,9 +44,9 @@ pub record AreOccupied (k : MoveKinds) : Type 0 where
   pub sender : Occupies k.sender k.sent
   pub receiver : Occupies k.receiver k.received
 
--- What the receiver holds after the move of the sender whose bytes end these, whatever the reading; or none.
+-- What the receiver holds after the move of the sender whose bytes end these, whatever the reading that keeps zones; or none.
 abbrev pub IsReceived : MoveKinds → List ℕ → Option (List ℕ) → Type 0
-IsReceived k bytes outcome = (reading : Reading) → Received (Entry k.sender (last_bytes k.sent bytes) reading) k.receiver k.received outcome
+IsReceived k bytes outcome = (reading : Reading) → KeepsZones reading → Received (Entry k.sender (last_bytes k.sent bytes) reading) k.receiver k.received outcome
 
 -- between two items
 abbrev pub BetweenItems : (Item → Item → Type 0) → Kind → Kind → Type 0

@@ -1,5 +1,6 @@
 -- Steps carried out.
 use Rattle.std.specs.Prelude.{◌≡◌, ◌≤◌, ℕ, List, length, Option}
+use Rattle.cob_codec.specs.Readings.{KeepsZones}
 use Rattle.cob_codec.specs.declared.reading.Reading.{Reading}
 use Rattle.cob_copybook_tree.specs.Lengths.{item_size}
 use Rattle.cob_copybook_tree.specs.declared.node.Item.{Item}
@@ -15,10 +16,10 @@ use Rattle.cob_move_steps.specs.declared.step.NumberStep.{NumberStep}
 use Rattle.cob_move_steps.specs.declared.edit_step.EditStep.{EditStep}
 use Rattle.cob_move_steps.specs.declared.wide_edit_step.WideEditStep.{WideEditStep}
 
--- What a receiver of n bytes holds after the move of the item that ends these bytes, whatever the reading; or none.
+-- What a receiver of n bytes holds after the move of the item that ends these bytes, whatever the reading that keeps zones; or none.
 abbrev pub ReceivedAtEnd : Item → Item → List ℕ → ℕ → Option (List ℕ) → Type 0
 ReceivedAtEnd from to bytes n outcome =
-    (reading : Reading) → Received (Entry (ItemKind from) (last_bytes (item_size from) bytes) reading) (ItemKind to) n outcome
+    (reading : Reading) → KeepsZones reading → Received (Entry (ItemKind from) (last_bytes (item_size from) bytes) reading) (ItemKind to) n outcome
 
 -- The same for each two items whose step this is, where the bytes have the sender at their end and n is the receiver's size.
 abbrev pub IsCarriedOut : NumberStep → List ℕ → ℕ → Option (List ℕ) → Type 0

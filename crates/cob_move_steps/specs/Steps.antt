@@ -1,6 +1,7 @@
 -- Single moves of numbers that are made ready.
 use Rattle.std.specs.Prelude.{◌≤◌, ℤ, ◌-ℤ◌, Bool, ◌&&◌, List, ℕ, Option, Some, None, IsSome}
 use Rattle.cob_picture.specs.Counts.{digits, scale, signed}
+use Rattle.cob_codec.specs.Readings.{KeepsZones}
 use Rattle.cob_codec.specs.declared.reading.Reading.{Reading}
 use Rattle.cob_copybook_tree.specs.declared.kinds.StorageKind.{StorageKind}
 use Rattle.cob_copybook_tree.specs.declared.kinds.StorageKind.TheVariants as kind
@@ -45,9 +46,9 @@ pub record IsWindowItem (i : Item) : Type 0 where
 abbrev pub received_form : Item → Bool → List ℕ → List ℕ
 received_form i minus ds = stored_form i (signed i.picture.positions && minus) ds
 
--- The reader reads an item, however it is sent, and keeps so many digits when its number is moved left by so many places.
+-- The reader reads an item, however it is sent but by any zones, and keeps so many digits when its number is moved left by so many places.
 abbrev pub IsItemReader : Item → (wanted : ℕ) → (shift : ℤ) → LaneReader → Type 0
-IsItemReader from wanted shift r = (reading : Reading) → IsReaderOf (IsSentBy reading from) (item_size from) wanted shift r
+IsItemReader from wanted shift r = (reading : Reading) → KeepsZones reading → IsReaderOf (IsSentBy reading from) (item_size from) wanted shift r
 
 -- The same of the digits that another item has places for.
 abbrev pub IsReaderFor : Item → Item → LaneReader → Type 0

@@ -1,6 +1,7 @@
 -- Operands of a record, known by their entries.
 use Rattle.std.proofs.Common.{◌≡◌, ◌<◌, List, sym, ap, subst, ◌∙◌, arith, Option, Some, None}
 use Rattle.cob_copybook.specs.Books.{IsRecordDescription}
+use Rattle.cob_copybook_names.specs.Naming.{Bearer}
 use Rattle.cob_copybook_tree.specs.Forests.{Forest, entries_in}
 use Rattle.cob_layout.specs.Sound.{IsSound}
 use Rattle.cob_layout.proofs.ReferenceLemmas.{has_below, refers_has}
@@ -14,8 +15,10 @@ use Rattle.cob_layout_places.specs.declared.reference.Ref.{Ref}
 use Rattle.cob_move_data.specs.Moves.{IsOperand, Records, operand_in, or_group, record_of}
 use Rattle.cob_move_statements.specs.Written.{WrittenReference}
 use Rattle.cob_move_names.specs.Candidates.{Candidate, all_entries}
-use Rattle.cob_move_names.specs.Laws.{NamedAreOperands}
+use Rattle.cob_move_names.specs.Laws.{ItemsAreOperands, NamedAreOperands}
 use Rattle.cob_move_names.specs.References.{NamesOperand}
+use Rattle.cob_move_names.specs.Valued.{AreOfEntries, ValuedEntry}
+use Rattle.cob_move_names.specs.Values.{NamesValues, ValuedOperand}
 
 -- the entry of an operand is one of the record's
 there : (tree : Forest Resolved) (o : Operand) → AreNumbered 0 tree → IsOperand tree o → o.entry.node < entries_in tree
@@ -40,6 +43,19 @@ own_is tree o is = subst (λ (x : Operand). IsOperand tree x) (own_operand tree 
 pub named_is : NamedAreOperands → (r : Records) (all : List Candidate) (w : WrittenReference) (side : Side) (o : Operand) → all ≡ all_entries r.input r.output
     → IsRecordDescription r.input → IsRecordDescription r.output → NamesOperand all w side o → IsOperand (record_of r side) o
 named_is law r all w side o same input output h = law r w side o input output (subst (λ (cs : List Candidate). NamesOperand cs w side o) same h)
+
+-- ---- the item of a condition-name
+
+-- it is an operand of its record
+pub item_is : ItemsAreOperands → (r : Records) (all : List Candidate) (values : List (Bearer ValuedEntry)) (w : WrittenReference) (v : ValuedOperand) → all ≡ all_entries r.input r.output
+    → IsRecordDescription r.input → IsRecordDescription r.output → AreOfEntries all values → NamesValues all values w v → IsOperand (record_of r v.side) v.operand
+item_is law r all values w v same input output held h =
+    law r values w v input output (subst (λ (cs : List Candidate). AreOfEntries cs values) same held) (subst (λ (cs : List Candidate). NamesValues cs values w v) same h)
+
+pub own_valued : (all : List Candidate) (values : List (Bearer ValuedEntry)) (w : WrittenReference) (tree : Forest Resolved) (v : ValuedOperand) → IsOperand tree v.operand → NamesValues all values w v
+    → NamesValues all values w (record { side = v.side; operand = operand_in tree v.operand.entry; first = v.first; more = v.more })
+own_valued all values w tree v is h =
+    subst (λ (o : Operand). NamesValues all values w (record { side = v.side; operand = o; first = v.first; more = v.more })) (own_operand tree v.operand is) h
 
 pub kind_is : (tree other : Forest Resolved) (r : Ref) (k : Kind) → other ≡ tree → kind_in r.node other ≡ Some k → k ≡ (operand_in tree r).kind
 kind_is tree other r k same is = some_kind (kind_in r.node tree) k (ap (λ (t : Forest Resolved). kind_in r.node t) (sym same) ∙ is)

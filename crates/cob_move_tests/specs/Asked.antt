@@ -3,19 +3,21 @@ use Rattle.std.specs.Prelude.{◌≡◌, ℕ, ◌<◌, List, ◌++◌, length, O
 use Rattle.std.specs.List.{AllByRecursion, slice_get}
 use Rattle.cob_codec.specs.declared.reading.Reading.TheVariants.{Pictured}
 use Rattle.cob_copybook_entry.specs.declared.kinds.Figurative.TheVariants.{Space}
-use Rattle.cob_copybook_entry.specs.Described.{Figure}
+use Rattle.cob_copybook_conditions.specs.Names.{PlainSpan}
+use Rattle.cob_copybook_entry.specs.Described.{Figure, PlainValue}
 use Rattle.cob_copybook_tree.specs.declared.node.Kind.{Kind}
 use Rattle.cob_copybook_tree.specs.declared.node.Kind.TheVariants.{Group}
 use Rattle.cob_move_condition.specs.declared.condition.Condition as code
-use Rattle.cob_move_condition.specs.Comparable.{is_number_operand}
+use Rattle.cob_move_condition.specs.Comparable.{is_number_operand, may_compare}
 use Rattle.cob_move_condition.specs.Tested.{MayBeTested}
 use Rattle.cob_move_conditions.specs.declared.phrases.Quality.{Quality}
 use Rattle.cob_move_conditions.specs.declared.phrases.Quality.TheVariants as quality
 use Rattle.cob_move_data.specs.Moves.{Entry, IsOperand, Literal, Records, Sender, operand_in, record_of}
-use Rattle.cob_move_receive.specs.Table.{Entry as EntryOf}
+use Rattle.cob_move_receive.specs.Table.{Entry as EntryOf, Literal as LiteralOf}
 use Rattle.cob_move_statements.specs.declared.fault.MoveRule.{MoveRule}
 use Rattle.cob_move_statements.specs.declared.fault.MoveRule.TheVariants as rule
 use Rattle.cob_move_tests.specs.declared.entries.NamedEntry.{NamedEntry}
+use Rattle.cob_move_tests.specs.Spans.{MayBeWithinAll, MayBeWithinBy, constants}
 
 -- the sender that an entry is, read as its picture says; a space where there is none
 abbrev pub sender_asked : Records → Option NamedEntry → Sender
@@ -63,3 +65,15 @@ MayAskQuality r asked q number = IsAsked asked number × IsNumberForSign q (kind
 -- an answer is so, or memory was refused
 abbrev pub IsOrMemory : {A : Type 0} → Result A MoveRule → (A → Type 0) → Type 0
 IsOrMemory answer Is = IfOk answer Is × IfErr answer (λ r. r ≡ rule.Memory)
+
+-- an entry that is asked for may be compared with this constant
+abbrev pub MayBeListed : Records → List NamedEntry → ℕ → PlainValue → Type 0
+MayBeListed r asked number v = IsAsked asked number × (may_compare (EntryOf (kind_named r asked number)) (LiteralOf v) ≡ true)
+
+-- with the values of a span
+abbrev pub MayBeSpanned : Records → List NamedEntry → ℕ → PlainSpan → Type 0
+MayBeSpanned r asked number v = IsAsked asked number × MayBeWithinBy (EntryOf (kind_named r asked number)) (constants v)
+
+-- and with those of several
+abbrev pub MayBeValued : Records → List NamedEntry → ℕ → PlainSpan → List PlainSpan → Type 0
+MayBeValued r asked number v more = IsAsked asked number × MayBeWithinAll (EntryOf (kind_named r asked number)) v more

@@ -1,5 +1,6 @@
 pub mod Entries
 pub mod Qualities
+pub mod Spans
 pub mod Meant
 pub mod Broken
 pub mod Asked

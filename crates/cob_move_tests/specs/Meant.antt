@@ -1,9 +1,10 @@
 -- What a written condition means: the condition on the operands that its references name, with what abbreviations leave out.
-use Rattle.std.specs.Prelude.{◌≡◌, ◌<◌, Bool, true, false, List, length}
+use Rattle.std.specs.Prelude.{◌≡◌, ◌<◌, Bool, true, false, List, [], ◌∷◌, length}
 use Rattle.cob_codec.specs.declared.reading.Reading.TheVariants.{Pictured}
 use Rattle.cob_copybook_clauses.specs.Written.{Figure as FigureWord, Quoted as QuotedText, Repeated as RepeatedText, Word, WrittenValue}
 use Rattle.cob_copybook_entry.specs.declared.kinds.Figurative.TheVariants.{Zero}
 use Rattle.cob_copybook_entry.specs.Described.{Figure}
+use Rattle.cob_copybook_names.specs.Naming.{Bearer}
 use Rattle.cob_move_condition.specs.Comparable.{may_compare}
 use Rattle.cob_move_condition.specs.Conditions.{Both, Compares, Condition, Either, HasClass, Not}
 use Rattle.cob_move_conditions.specs.declared.phrases.Quality.{Quality}
@@ -17,9 +18,12 @@ use Rattle.cob_move_data.specs.Moves.{Entry, Literal, Records, Sender, record_of
 use Rattle.cob_move_names.specs.Candidates.{Candidate, all_entries}
 use Rattle.cob_move_names.specs.References.{NamesOperand}
 use Rattle.cob_move_names.specs.Senders.{IsSenderOf, kind_of_sender}
+use Rattle.cob_move_names.specs.Valued.{ValuedEntry}
+use Rattle.cob_move_names.specs.Values.{NamesValues, ValuedOperand, conditions_of}
 use Rattle.cob_move_statements.specs.Written.{SentConstant, SentReference, WrittenReference, WrittenSender}
 use Rattle.cob_source.specs.Tokens.{Lexeme}
 use Rattle.cob_move_tests.specs.Qualities.{may_have}
+use Rattle.cob_move_tests.specs.Spans.{MayHold, holds}
 
 -- ---- parts
 
@@ -81,31 +85,55 @@ abbrev pub IsRelationBehind : List Candidate → Relation → WrittenSender → 
 IsRelationBehind all r w NoneStated c next = ⊥
 IsRelationBehind all r w (StatedAs a last) c next = StatesRelation all a r w c next
 
--- an operand alone means the relation stated last to it; where none was stated it is the name of a condition
-abbrev pub IsOperandBehind : List Candidate → WrittenSender → Stated → Condition → Stated → Type 0
-IsOperandBehind all w NoneStated c next = ⊥
-IsOperandBehind all w (StatedAs a r) c next = StatesRelation all a r w c next
+-- an operand alone that names no condition means the relation stated last to it
+abbrev pub IsLastRelation : List Candidate → WrittenSender → Stated → Condition → Stated → Type 0
+IsLastRelation all w NoneStated c next = ⊥
+IsLastRelation all w (StatedAs a r) c next = StatesRelation all a r w c next
+
+-- what stands alone names these conditions; a constant names none
+abbrev pub conditions_named : List (Bearer ValuedEntry) → WrittenSender → List (Bearer ValuedEntry)
+conditions_named values (SentReference w) = conditions_of values w
+conditions_named values (SentConstant v) = []
+
+-- it names a condition of this item with these values
+abbrev pub NamesCondition : List Candidate → List (Bearer ValuedEntry) → WrittenSender → ValuedOperand → Type 0
+NamesCondition all values (SentReference w) v = NamesValues all values w v
+NamesCondition all values (SentConstant w) v = ⊥
+
+-- the name of a condition means that its item is one of its values: it may be compared with them
+abbrev pub IsNameOf : List Candidate → List (Bearer ValuedEntry) → WrittenSender → Condition → Type 0
+IsNameOf all values w c = (v : ValuedOperand) × NamesCondition all values w v × MayHold v × (c ≡ holds v)
+
+-- An operand alone, which names these conditions: where it names none, it means the relation stated last to it, and else the condition that it names, whatever was
+-- stated; and behind that nothing is.
+abbrev pub IsAlone : List (Bearer ValuedEntry) → List Candidate → List (Bearer ValuedEntry) → WrittenSender → Stated → Condition → Stated → Type 0
+IsAlone [] all values w s c next = IsLastRelation all w s c next
+IsAlone (b ∷ bs) all values w s c next = IsNameOf all values w c × (next ≡ NoneStated)
+
+-- the same, of the conditions that it names
+abbrev pub IsOperandBehind : List Candidate → List (Bearer ValuedEntry) → WrittenSender → Stated → Condition → Stated → Type 0
+IsOperandBehind all values w s c next = IsAlone (conditions_named values w) all values w s c next
 
 -- A simple condition means this behind what was stated, and states that: a relation its own subject and relation, a class or a sign nothing.
-abbrev pub IsTestOf : List Candidate → Records → WrittenTest → Stated → Condition → Stated → Type 0
-IsTestOf all records (Relates w r v) s c next = (a : Sender) × IsOperandOf all w a × StatesRelation all a r v c next
-IsTestOf all records (RelatesTo r v) s c next = IsRelationBehind all r v s c next
-IsTestOf all records (StandsAlone v) s c next = IsOperandBehind all v s c next
-IsTestOf all records (Has w opposite q) s c next = HasQuality all records w opposite q c × (next ≡ NoneStated)
+abbrev pub IsTestOf : List Candidate → List (Bearer ValuedEntry) → Records → WrittenTest → Stated → Condition → Stated → Type 0
+IsTestOf all values records (Relates w r v) s c next = (a : Sender) × IsOperandOf all w a × StatesRelation all a r v c next
+IsTestOf all values records (RelatesTo r v) s c next = IsRelationBehind all r v s c next
+IsTestOf all values records (StandsAlone v) s c next = IsOperandBehind all values v s c next
+IsTestOf all values records (Has w opposite q) s c next = HasQuality all records w opposite q c × (next ≡ NoneStated)
 
 -- ---- conditions
 
 -- A written condition means this behind what was stated, and states that: what stands in brackets stands for itself.
-abbrev pub IsMeantBy : List Candidate → Records → WrittenCondition → Stated → Condition → Stated → Type 0
-IsMeantBy all r (Simple t) s c next = IsTestOf all r t s c next
-IsMeantBy all r (InBrackets d) s c next = (last : Stated) × IsMeantBy all r d NoneStated c last × (next ≡ NoneStated)
-IsMeantBy all r (BehindNot d) s c next = (x : Condition) × IsMeantBy all r d s x next × (c ≡ Not x)
-IsMeantBy all r (WithAnd d e) s c next = (x y : Condition) × (mid : Stated) × IsMeantBy all r d s x mid × IsMeantBy all r e mid y next × (c ≡ Both x y)
-IsMeantBy all r (WithOr d e) s c next = (x y : Condition) × (mid : Stated) × IsMeantBy all r d s x mid × IsMeantBy all r e mid y next × (c ≡ Either x y)
+abbrev pub IsMeantBy : List Candidate → List (Bearer ValuedEntry) → Records → WrittenCondition → Stated → Condition → Stated → Type 0
+IsMeantBy all values r (Simple t) s c next = IsTestOf all values r t s c next
+IsMeantBy all values r (InBrackets d) s c next = (last : Stated) × IsMeantBy all values r d NoneStated c last × (next ≡ NoneStated)
+IsMeantBy all values r (BehindNot d) s c next = (x : Condition) × IsMeantBy all values r d s x next × (c ≡ Not x)
+IsMeantBy all values r (WithAnd d e) s c next = (x y : Condition) × (mid : Stated) × IsMeantBy all values r d s x mid × IsMeantBy all values r e mid y next × (c ≡ Both x y)
+IsMeantBy all values r (WithOr d e) s c next = (x y : Condition) × (mid : Stated) × IsMeantBy all values r d s x mid × IsMeantBy all values r e mid y next × (c ≡ Either x y)
 
--- words are a condition between two records, and mean this
-pub record IsConditionOf (r : Records) (ws : List Lexeme) (c : Condition) : Type 0 where
+-- words are a condition between two records, which have these condition-names, and mean this
+pub record IsConditionOf (r : Records) (values : List (Bearer ValuedEntry)) (ws : List Lexeme) (c : Condition) : Type 0 where
   pub written : WrittenCondition
   pub last : Stated
   pub spelled : IsWholeCondition written ws
-  pub meant : IsMeantBy (all_entries r.input r.output) r written NoneStated c last
+  pub meant : IsMeantBy (all_entries r.input r.output) values r written NoneStated c last

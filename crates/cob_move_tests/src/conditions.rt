@@ -12,14 +12,13 @@ ghost use Rattle.cob_move_tests.specs.declared.entries.NamedEntry.{NamedEntry as
 ghost use Rattle.cob_move_tests.specs.Asked.{AsksMore, IsOrMemory, IsTestable, MayAskQuality, sender_named};
 ghost use Rattle.cob_move_tests.specs.Broken.{
   BreaksWrittenCondition,
-  BreaksLone,
   BreaksQuality,
   BreaksRelation,
   BreaksTest,
   BreaksConditionWords,
 };
 ghost use Rattle.cob_move_tests.specs.Compared.{IsReadCondition, IsStatedThere, IsComparedThere, sender_in, stated_in};
-ghost use Rattle.cob_move_tests.specs.Entries.{AllMayBeNamed, nameable, records_of};
+ghost use Rattle.cob_move_tests.specs.Entries.{AllMayBeNamed, nameable, records_of, valued_in};
 ghost use Rattle.cob_move_tests.specs.Meant.{
   HasQuality,
   IsConditionOf,
@@ -30,6 +29,7 @@ ghost use Rattle.cob_move_tests.specs.Meant.{
   quality_asked,
 };
 
+use crate::alone::alone_of;
 use crate::compared::{Compared, LastRelation, ReadCondition, compared_of};
 use crate::entries::{Entries, NamedEntry};
 use crate::laws::{conditions_break_no_rule, one_condition_of};
@@ -100,7 +100,7 @@ pub fn either(alloc: Global, first: Condition, second: Condition) -> Result<Cond
 /// # Errors
 ///
 /// As [`compared_of`]; `NotComparable`.
-fn relation_of(
+pub(crate) fn relation_of(
     alloc: Global,
     entries: &Entries<'_, '_>,
     subject: Compared,
@@ -180,20 +180,6 @@ fn quality_of(
     Ok(condition)
 }
 
-/// The rule that an operand alone breaks, where nothing was stated.
-fn alone(entries: &Entries<'_, '_>, written: &StatementSender<'_>) -> MoveRule
-    requires named { AllMayBeNamed entries.now }
-    ensures { BreaksLone result (nameable entries.now) (written_sender written.now) }
-{
-    match written {
-        StatementSender::Constant(_) => MoveRule::Grammar,
-        StatementSender::Reference(reference) => match entries.named(reference) {
-            Ok(_) => MoveRule::NotComparable,
-            Err(rule) => rule,
-        },
-    }
-}
-
 /// What a simple condition means behind what was stated.
 ///
 /// # Errors
@@ -209,12 +195,12 @@ fn test_of(
     requires named { AllMayBeNamed entries.now }
     requires there { IsStatedThere (records_of entries.now) asked.old.items last }
     ensures found { IfOk result (IsReadCondition (records_of entries.now) asked.new.items
-        (IsTestOf (nameable entries.now) (records_of entries.now) (written_test phrase.now)
+        (IsTestOf (nameable entries.now) (valued_in entries.now) (records_of entries.now) (written_test phrase.now)
         (stated_in (records_of entries.now) asked.old.items last))) }
     ensures there { IfOk result (λ c. IsStatedThere (records_of entries.now) asked.new.items c.last) }
     ensures grown { AsksMore (records_of entries.now) asked.old.items asked.new.items }
     ensures fault { IfErr result (λ r. (r ≡ Memory) ⊎ BreaksTest r (nameable entries.now)
-        (records_of entries.now) (written_test phrase.now)
+        (valued_in entries.now) (records_of entries.now) (written_test phrase.now)
         (stated_in (records_of entries.now) asked.old.items last)) }
 {
     match phrase {
@@ -226,17 +212,7 @@ fn test_of(
             Some(stated) => relation_of(alloc, entries, stated.subject, *relation, second, asked),
             None => Err(MoveRule::Grammar),
         },
-        TestPhrase::StandsAlone(second) => match last {
-            Some(stated) => relation_of(
-                alloc,
-                entries,
-                stated.subject,
-                stated.relation,
-                second,
-                asked,
-            ),
-            None => Err(alone(entries, second)),
-        },
+        TestPhrase::StandsAlone(second) => alone_of(alloc, entries, second, last, asked),
         TestPhrase::Has {
             entry,
             opposite,
@@ -266,12 +242,12 @@ fn reading_of(
     requires named { AllMayBeNamed entries.now }
     requires there { IsStatedThere (records_of entries.now) asked.old.items last }
     ensures found { IfOk result (IsReadCondition (records_of entries.now) asked.new.items
-        (IsMeantBy (nameable entries.now) (records_of entries.now) (written_condition phrase.now)
+        (IsMeantBy (nameable entries.now) (valued_in entries.now) (records_of entries.now) (written_condition phrase.now)
         (stated_in (records_of entries.now) asked.old.items last))) }
     ensures there { IfOk result (λ c. IsStatedThere (records_of entries.now) asked.new.items c.last) }
     ensures grown { AsksMore (records_of entries.now) asked.old.items asked.new.items }
     ensures fault { IfErr result (λ r. (r ≡ Memory) ⊎ BreaksWrittenCondition r (nameable entries.now)
-        (records_of entries.now) (written_condition phrase.now)
+        (valued_in entries.now) (records_of entries.now) (written_condition phrase.now)
         (stated_in (records_of entries.now) asked.old.items last)) }
 {
     match phrase {
@@ -337,12 +313,12 @@ fn read_condition(
     asked: &mut Vec<NamedEntry>,
 ) -> Result<Condition, MoveRule>
     requires named { AllMayBeNamed entries.now }
-    ensures found { IfOk result (λ c. IsConditionOf (records_of entries.now) (lexemes words.now)
+    ensures found { IfOk result (λ c. IsConditionOf (records_of entries.now) (valued_in entries.now) (lexemes words.now)
         (condition_of (sender_named (records_of entries.now) asked.new.items) c)) }
     ensures tested { IfOk result (IsTestable (records_of entries.now) asked.new.items) }
     ensures grown { AsksMore (records_of entries.now) asked.old.items asked.new.items }
     ensures fault { IfErr result (λ r. (r ≡ Memory)
-        ⊎ BreaksConditionWords r (records_of entries.now) (lexemes words.now)) }
+        ⊎ BreaksConditionWords r (records_of entries.now) (valued_in entries.now) (lexemes words.now)) }
 {
     let phrase = phrase_of(alloc, words)?;
     let reading = reading_of(alloc, entries, &phrase, None, asked)?;
@@ -363,10 +339,10 @@ pub fn condition_of(
 ) -> Result<Condition, MoveRule>
     requires named { AllMayBeNamed entries.now }
     // What is answered is what the words mean.
-    ensures found { IfOk result (λ c. IsConditionOf (records_of entries.now) (lexemes words.now)
+    ensures found { IfOk result (λ c. IsConditionOf (records_of entries.now) (valued_in entries.now) (lexemes words.now)
         (condition_of (sender_named (records_of entries.now) asked.new.items) c)) }
     // The words of a condition are read, memory aside, and mean nothing else.
-    ensures only { (d : Conditions) → IsConditionOf (records_of entries.now) (lexemes words.now) d
+    ensures only { (d : Conditions) → IsConditionOf (records_of entries.now) (valued_in entries.now) (lexemes words.now) d
         → IsOrMemory result
         (λ c. condition_of (sender_named (records_of entries.now) asked.new.items) c ≡ d) }
     // It may be tested: its operands are there, and those that are compared may be.
@@ -375,7 +351,7 @@ pub fn condition_of(
     ensures grown { AsksMore (records_of entries.now) asked.old.items asked.new.items }
     // A refusal is for want of memory, or names a rule that the words break.
     ensures fault { IfErr result (λ r. (r ≡ Memory)
-        ⊎ BreaksConditionWords r (records_of entries.now) (lexemes words.now)) }
+        ⊎ BreaksConditionWords r (records_of entries.now) (valued_in entries.now) (lexemes words.now)) }
 {
     // For `only`: words mean one condition, and where they mean one, break no rule.
     one_condition_of();

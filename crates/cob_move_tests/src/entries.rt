@@ -1,18 +1,21 @@
 //! The entries of two records, as statements name them.
 
-ghost use Rattle.std.specs.Prelude.{◌≡◌, IfErr, IfOk};
+ghost use Rattle.std.specs.Prelude.{◌≡◌, [], IfErr, IfNone, IfOk, IfSome};
 ghost use Rattle.cob_move_data.specs.Moves.{IsOperand, operand_in, record_of};
 ghost use Rattle.cob_move_data.specs.declared.operands.Side.TheVariants.{Out};
 ghost use Rattle.cob_move_names.specs.Directory.{entries_named};
 ghost use Rattle.cob_move_names.specs.References.{BreaksReceiver, BreaksReference};
+ghost use Rattle.cob_move_names.specs.Values.{BreaksValues, NamesValues, conditions_of};
 ghost use Rattle.cob_move_statements.specs.Written.{written_reference};
-ghost use Rattle.cob_move_tests.specs.Entries.{AllMayBeNamed, NamesAmong, records_of};
+ghost use Rattle.cob_move_tests.specs.Asked.{IsSubscriptedEntry};
+ghost use Rattle.cob_move_tests.specs.Entries.{AllMayBeNamed, NamesAmong, nameable, records_of, valued_in, valued_item};
 
+use cob_copybook_conditions::Span;
 use cob_copybook_tree::Kind;
 use cob_layout::{Layout, records_are_sound};
 use cob_layout_places::Ref;
 use cob_move_data::Side;
-use cob_move_names::{Names, named_are_operands};
+use cob_move_names::{Names, items_are_operands, named_are_operands};
 use cob_move_statements::{MoveRule, Reference};
 
 /// The entries of the input record and of the output record: by their names, and by their numbers.
@@ -30,7 +33,15 @@ pub struct NamedEntry {
     pub entry: Ref,
 }
 
-impl Entries<'_, '_> {
+/// The item of a condition-name, and the values of the name: the first, and any more.
+#[derive(Drop)]
+pub struct ValuedItem<'a> {
+    pub item: NamedEntry,
+    pub first: &'a Span,
+    pub more: &'a [Span],
+}
+
+impl<'a> Entries<'_, 'a> {
     /// The layout of a side's record.
     pub fn layout(&self, side: Side) -> &Layout
         ensures { result.now ≡ record_of (records_of self.now) side }
@@ -102,5 +113,40 @@ impl Entries<'_, '_> {
         let _ = self.output.greatest();
         let named = self.names.find_receiver(reference)?;
         Ok(named.entry)
+    }
+    /// What a written reference names as the name of a condition, if it names one.
+    ///
+    /// # Errors
+    ///
+    /// `Ambiguous`, `Subscripts`.
+    pub fn values(&self, reference: &Reference<'_>) -> Result<Option<ValuedItem<'a>>, MoveRule>
+        requires named { AllMayBeNamed self.now }
+        ensures found { IfOk result (λ found. IfSome found (λ v. NamesValues (nameable self.now)
+            (valued_in self.now) (written_reference reference.now)
+            (valued_item (records_of self.now) v))) }
+        ensures operand { IfOk result
+            (λ found. IfSome found (λ v. IsSubscriptedEntry (records_of self.now) v.item)) }
+        ensures none { IfOk result (λ found. IfNone found
+            (conditions_of (valued_in self.now) (written_reference reference.now) ≡ [])) }
+        ensures fault { IfErr result (λ r. BreaksValues r (nameable self.now) (valued_in self.now)
+            (written_reference reference.now)) }
+    {
+        // For `operand`: the item of a condition-name is an operand of its record,
+        items_are_operands();
+        // and both layouts are those of record descriptions.
+        let _ = self.input.greatest();
+        let _ = self.output.greatest();
+        let found = self.names.find_values(reference)?;
+        match found {
+            None => Ok(None),
+            Some(named) => Ok(Some(ValuedItem {
+                item: NamedEntry {
+                    side: named.side,
+                    entry: named.operand.entry,
+                },
+                first: named.first,
+                more: named.more,
+            })),
+        }
     }
 }

@@ -3,13 +3,14 @@
 ghost use Rattle.cob_move_tests.specs.Laws.{ConditionsBreakNoRule, OneConditionOf};
 
 use cob_move_conditions::one_written_condition;
-use cob_move_names::{named_break_no_rule, one_named};
+use cob_move_names::{named_break_no_rule, one_named, one_valued, valued_break_no_rule};
 
 /// A law: words mean one condition.
 pub fn one_condition_of()
     ensures { OneConditionOf }
 {
     one_named();
+    one_valued();
     one_written_condition();
 }
 
@@ -19,5 +20,7 @@ pub fn conditions_break_no_rule()
 {
     one_named();
     named_break_no_rule();
+    one_valued();
+    valued_break_no_rule();
     one_written_condition();
 }

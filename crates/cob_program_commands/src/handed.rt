@@ -47,9 +47,10 @@ pub(crate) fn with_handed_books<'a>(line: &Line<'a>) -> Line<'a>
             out_book: OUT_BOOK,
             ..*line
         }),
-        Line::Draft(_) => Line::Draft(DraftLine {
+        Line::Draft(line) => Line::Draft(DraftLine {
             in_book: IN_BOOK,
             out_book: OUT_BOOK,
+            ..*line
         }),
         Line::Layout(_) => Line::Layout(LayoutLine { book: LISTED_BOOK }),
         Line::Show(line) => Line::Show(ShowLine {

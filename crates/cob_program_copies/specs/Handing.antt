@@ -31,6 +31,7 @@ status_of_unhanded (refusal.NotRead words) = status.Device
 status_of_unhanded (refusal.OneFile option lost) = status.Malformed
 status_of_unhanded refusal.BadReplace = status.Malformed
 status_of_unhanded refusal.BadTabs = status.Malformed
+status_of_unhanded refusal.BadRecordsAs = status.Malformed
 status_of_unhanded refusal.Memory = status.Memory
 
 -- with which status the command ends whose copybooks are not handed over

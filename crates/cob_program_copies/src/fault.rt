@@ -25,6 +25,8 @@ pub enum BookRefusal {
     BadReplace,
     /// The option for tab stops says no number of columns.
     BadTabs,
+    /// The option for the names of both records says none of its words.
+    BadRecordsAs,
     /// Memory was refused.
     Memory,
 }
@@ -83,6 +85,7 @@ fn tell_refusal<R: Eprint>(rt: &R, refusal: &BookRefusal) -> Status
         ),
         BookRefusal::BadReplace => printed(eprintln!(rt; "bad replace"), Status::Malformed),
         BookRefusal::BadTabs => printed(eprintln!(rt; "bad tabs"), Status::Malformed),
+        BookRefusal::BadRecordsAs => printed(eprintln!(rt; "bad records-as"), Status::Malformed),
         BookRefusal::Memory => printed(eprintln!(rt; "memory"), Status::Memory),
     }
 }

@@ -9,6 +9,7 @@ use crate::exchanges::exchanges_of;
 use crate::fault::{BookRefusal, HandingFault};
 use crate::folders::Folders;
 use crate::judging::{Telling, judged};
+use crate::naming::RecordNames;
 use crate::outputs::Outputs;
 use crate::spacing::Spacing;
 use crate::told::{of_fetching, of_own_source, of_text};
@@ -45,6 +46,8 @@ struct Asked<'t, 'a> {
     outputs: &'t Outputs,
     /// How the texts stand on their lines.
     spacing: Spacing,
+    /// How the records of both copybooks are named.
+    names: RecordNames,
     /// Whether refusals of texts that are made are told in words too.
     in_words: bool,
 }
@@ -248,6 +251,7 @@ fn push_handed<'a, R: AllocGlobal + Files>(
     ensures { IfErr result LacksHanding }
 {
     let text = text_handed(rt, book, handing, text)?;
+    let text = handing.names.named(rt.alloc(), book.file, book.role, text)?;
     out.push(HandedBook {
         found_at: book.found_at,
         path: book.path,
@@ -355,8 +359,8 @@ fn hand_files<'a, R: AllocGlobal + Files>(
 ///
 /// # Errors
 ///
-/// A file that is not opened or not read; a copybook that is refused, or a text that it copies; an exchange that is none, or a bad number of columns between tab
-/// stops; want of memory. What is wrong with a text that is made is told in words too, where that is asked for.
+/// A file that is not opened or not read; a copybook that is refused, or a text that it copies; an exchange that is none, a bad number of columns between tab
+/// stops, or bad names of records; want of memory. What is wrong with a text that is made is told in words too, where that is asked for.
 pub fn hand_over<'a, R: AllocGlobal + Files>(
     rt: &R,
     line: &Line<'a>,
@@ -373,11 +377,16 @@ pub fn hand_over<'a, R: AllocGlobal + Files>(
         Ok(spacing) => spacing,
         Err(refusal) => return Err(HandingFault::Book(refusal)),
     };
+    let names = match RecordNames::of(handing, line) {
+        Ok(names) => names,
+        Err(refusal) => return Err(HandingFault::Book(refusal)),
+    };
     let outputs = Outputs::of(rt, line);
     let asked = Asked {
         options: handing,
         outputs: &outputs,
         spacing,
+        names,
         in_words,
     };
     hand_files(rt, files, &asked)

@@ -5,6 +5,9 @@
 //! knows nothing of COPY. A copybook to which nothing is done is handed on byte for byte. Of one in free format a text in reference format is made, and of one with
 //! tabs one with spaces, as the options say ([`Spacing`]).
 //!
+//! Where an option asks for it, the records are named by their roles: a copybook is then handed over as a text that describes the same record under that name, as
+//! `cob_program_roles` promises.
+//!
 //! The texts that are copied come from the folders that an option names, the first that has one ([`Folders`]): NAME, NAME.cpy or NAME.cbl, or these in small letters,
 //! and of a library a folder of its name beneath. At most as many bytes are read of one as a text may have, and a piece more.
 //!
@@ -28,6 +31,7 @@ mod files;
 mod folders;
 mod handing;
 mod judging;
+mod naming;
 mod outputs;
 mod runtime;
 mod spacing;

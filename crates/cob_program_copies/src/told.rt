@@ -1,9 +1,10 @@
 //! Faults of texts that are copied, in words.
 
 use crate::fault::BookRefusal;
-use cob_copybook::BookFault;
+use cob_copybook::{BookFault, Role};
 use cob_copybook_text::{Copying, RecordTextFault};
 use cob_program_faults::FileName;
+use cob_program_roles::role_name;
 use cob_source::{SourceFault, SourceRule};
 use cob_source_copies::{CopyFault, CopyRule, FetchFault, ShelfFault, TextName, line_numbered};
 use std::alloc::{AllocError, Global};
@@ -115,6 +116,16 @@ pub(crate) fn of_text(
         RecordTextFault::Copy(fault) => words_of_copy(alloc, file, how, fault)?,
     };
     Ok(BookRefusal::Refused(words))
+}
+
+/// What is told of a copybook whose record can't be given the name of its role.
+pub(crate) fn of_naming(
+    alloc: Global,
+    file: FileName,
+    role: Role,
+) -> Result<BookRefusal, AllocError> {
+    let name = str::from_utf8(role_name(role)).unwrap_or("?");
+    Ok(BookRefusal::Refused(format!(in alloc; "{file} B18 {name}")?))
 }
 
 /// What is told of a text that breaks a rule of the reference format.

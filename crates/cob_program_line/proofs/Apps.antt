@@ -1,20 +1,20 @@
 -- What the parser says of a command, and of what it found, in the words of this crate.
-use Rattle.std.proofs.Common.{Result, Ok, Err, IsErrAnd, IfErr, codes, subst, ◌∙◌, ◌≡◌, inl, inr, ◌==◌, ℕ, arith, [], ◌∷◌, Option, Some, None, true, false, refl, sym, ap, true≢false}
+use Rattle.std.proofs.Common.{Bool, Result, Ok, Err, IsErrAnd, IfErr, codes, subst, ◌∙◌, ◌≡◌, inl, inr, ◌==◌, ℕ, arith, [], ◌∷◌, Option, Some, None, true, false, refl, sym, ap, true≢false}
 use Rattle.std.specs.Prelude.{is_some, unwrap_or}
 use Rattle.std.proofs.lemmas.Bool.Decides.{nat_tests}
 use Rattle.clap.specs.Words.{Text}
 use Rattle.cob_program_line.specs.Numbers.{SaysNumber}
 use Rattle.cob_program_options.specs.Commands.{compare_options, pieces_options, show_options}
 use Rattle.cob_program_options.specs.Looks.{AreAll, Look}
-use Rattle.cob_program_line.specs.Named.{NamesBlock, NamesBound, NamesNumber, NamesRightForm, form_by_letter, letter_of, listing_by_word, reading_by_word, sized_by, word_of, word_of_listing}
+use Rattle.cob_program_line.specs.Named.{NamesBlock, NamesBound, NamesNumber, NamesReading, NamesRightForm, binary_by_word, form_by_letter, letter_of, listing_by_word, sized_by, word_of_binary, word_of_listing, word_of_zones, zones_by_word}
 use Rattle.cob_program_line.specs.Faults.{HasCounts, HasForms, HasListing, HasLrecl, HasPiece, HasPieces, HasSizes, IsFaultIn, LacksABlock, LacksBlock, LacksBound, LacksCount, LacksForm, LacksListing, LacksNumber, LacksPiece, LacksReading, LacksSize}
 use Rattle.cob_program_line.specs.Lines.{NameChoice, NameForms, NamePiece}
 use Rattle.cob_program_line.specs.declared.line.Forms.{Forms}
 use Rattle.cob_program_line.specs.declared.line.Listing.{Listing}
 use Rattle.cob_program_line.specs.declared.line.Listing.TheVariants as listing
 use Rattle.cob_program_line.specs.declared.fault.LineFault.{LineFault}
+use Rattle.cob_codec.specs.Readings.{reads_whole, takes_any_zones}
 use Rattle.cob_codec.specs.declared.reading.Reading.{Reading}
-use Rattle.cob_codec.specs.declared.reading.Reading.TheVariants.{Pictured, Whole}
 use Rattle.cob_records.specs.BlockSize.{SaysBlockSize}
 use Rattle.cob_records.specs.declared.records.Form.{Form}
 use Rattle.cob_records.specs.declared.records.Form.TheVariants.{Fixed, Variable, Blocked}
@@ -66,16 +66,31 @@ both_forms look f g none neither from to =
     has_forms look (no_form look (codes "form") none) (has_form look (codes "in-form") f from) (has_form look (codes "out-form") g to)
     (no_form look (codes "right-form") neither)
 
--- the option for the reading that names one does not lack one
-pub has_reading : (look : Look) (r : Reading) → look (codes "binary") ≡ Some (word_of r) → LacksReading look → ⊥
-has_reading look r named (word, is, none) = true≢false (sym (ap is_some (sym none ∙ ap reading_by_word same) ∙ back r))
+-- an option that names one of two words, which say something, does not lack one
+has_word : (look : Look) (name : Text) (by : Text → Option Bool) (word_by : Bool → Text) (b : Bool) → ((b : Bool) → is_some (by (word_by b)) ≡ true)
+    → look name ≡ Some (word_by b) → (word : Text) → look name ≡ Some word → by word ≡ None → ⊥
+has_word look name by word_by b back named word is none = true≢false (sym (ap is_some (sym none ∙ ap by same) ∙ back b))
   where
-    back : (r : Reading) → is_some (reading_by_word (word_of r)) ≡ true
-    back Pictured = refl
-    back Whole = refl
-
-    same : word ≡ word_of r
+    same : word ≡ word_by b
     same = ap (λ o. unwrap_or o word) (sym is ∙ named)
+
+binary_back : (b : Bool) → is_some (binary_by_word (word_of_binary b)) ≡ true
+binary_back false = refl
+binary_back true = refl
+
+zones_back : (b : Bool) → is_some (zones_by_word (word_of_zones b)) ≡ true
+zones_back false = refl
+zones_back true = refl
+
+-- the options for the reading that name one do not lack one
+pub has_reading : (look : Look) (r : Reading) → NamesReading look r → LacksReading look → ⊥
+has_reading look r named (inl (word, is, none)) = has_word look (codes "binary") binary_by_word word_of_binary (reads_whole r) binary_back named.binary word is none
+has_reading look r named (inr (word, is, none)) = has_word look (codes "zones") zones_by_word word_of_zones (takes_any_zones r) zones_back named.zones word is none
+
+-- nor do they where they are not there
+no_reading : (look : Look) → look (codes "binary") ≡ None → look (codes "zones") ≡ None → LacksReading look → ⊥
+no_reading look binary zones (inl lacks) = absent look (codes "binary") lacks.0 binary lacks.1
+no_reading look binary zones (inr lacks) = absent look (codes "zones") lacks.0 zones lacks.1
 
 -- a size is named beside a form as beside another of the same letter
 pub block_beside : (look : Look) (name : Text) (f g : Form) (size : ℕ) → letter_of f ≡ letter_of g → NamesBlock look name f size → NamesBlock look name g size
@@ -159,7 +174,7 @@ has_piece look from bytes first h (inr (inr lacks)) = has_number look (codes "re
 -- where the forms of both files are named, nothing is wrong before a listing
 pub before_listing : (look : Look) (forms : Forms) → look (codes "form") ≡ None → look (codes "right-form") ≡ None → NameForms look forms → HasSizes look
 before_listing look forms none neither h = (
-  (both_forms look forms.input forms.output none neither h.in_letter h.out_letter, has_reading look forms.reading h.word),
+  (both_forms look forms.input forms.output none neither h.in_letter h.out_letter, has_reading look forms.reading h.reads),
   have_blocks look forms.input forms.output forms.in_block forms.out_block h.in_letter h.out_letter h.in_size h.out_size,
 )
 
@@ -172,11 +187,11 @@ before_counts look from bytes first h before = (before, has_piece look from byte
 
 -- nor where one form is named, and the options before are not there
 one_form : (look : Look) (f : Form) → look (codes "form") ≡ Some (letter_of f) → look (codes "in-form") ≡ None → look (codes "out-form") ≡ None
-    → (LacksForm look (codes "right-form") → ⊥) → look (codes "binary") ≡ None → HasSizes look
-one_form look f named from to right binary = (
+    → (LacksForm look (codes "right-form") → ⊥) → look (codes "binary") ≡ None → look (codes "zones") ≡ None → HasSizes look
+one_form look f named from to right binary zones = (
   (
     has_forms look (has_form look (codes "form") f named) (no_form look (codes "in-form") from) (no_form look (codes "out-form") to) right,
-    λ lacks. absent look (codes "binary") lacks.0 binary lacks.1,
+    no_reading look binary zones,
   ),
   λ lacks. elim lacks [
     | inl block ↦ absent look (codes "in-form") _ from block.1
@@ -203,7 +218,7 @@ no_bound look name none lacks = absent look name lacks.0 none lacks.1
 pub show_form : (look : Look) (f : Form) → AreAll show_options look → look (codes "form") ≡ Some (letter_of f) → HasSizes look
 show_form look f all named =
     one_form look f named (all (codes "in-form") refl) (all (codes "out-form") refl) (no_form look (codes "right-form") (all (codes "right-form") refl))
-    (all (codes "binary") refl)
+    (all (codes "binary") refl) (all (codes "zones") refl)
 
 pub show_listing : (look : Look) (f : Form) (l : Listing) → AreAll show_options look → look (codes "form") ≡ Some (letter_of f) → look (codes "as") ≡ Some (word_of_listing l)
     → HasPiece look
@@ -216,7 +231,7 @@ pub pieces_form : (look : Look) (f : Form) → AreAll pieces_options look → lo
 pieces_form look f all named = (
   (
     before_piece look (all (codes "as") refl) (one_form look f named (all (codes "in-form") refl) (all (codes "out-form") refl)
-        (no_form look (codes "right-form") (all (codes "right-form") refl)) (all (codes "binary") refl)),
+        (no_form look (codes "right-form") (all (codes "right-form") refl)) (all (codes "binary") refl) (all (codes "zones") refl)),
     no_piece look (all (codes "from") refl) (all (codes "bytes") refl) (all (codes "record") refl),
   ),
   no_count look (all (codes "skip") refl) (all (codes "records") refl) (all (codes "most-rejects") refl) (no_bound look (codes "most") (all (codes "most") refl)),
@@ -226,7 +241,7 @@ pieces_form look f all named = (
 pub compared_forms : (look : Look) (f g : Form) → AreAll compare_options look → look (codes "form") ≡ Some (letter_of f) → NamesRightForm look f g → HasPiece look
 compared_forms look f g all named right = (
   before_piece look (all (codes "as") refl)
-      (one_form look f named (all (codes "in-form") refl) (all (codes "out-form") refl) (has_right right) (all (codes "binary") refl)),
+      (one_form look f named (all (codes "in-form") refl) (all (codes "out-form") refl) (has_right right) (all (codes "binary") refl) (all (codes "zones") refl)),
   no_piece look (all (codes "from") refl) (all (codes "bytes") refl) (all (codes "record") refl),
 )
   where

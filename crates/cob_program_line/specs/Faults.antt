@@ -11,7 +11,7 @@ use Rattle.cob_program_options.specs.Options.{Given, Options, taken}
 use Rattle.cob_program_options.specs.Commands.{Spells}
 use Rattle.cob_program_line.specs.Numbers.{SaysNumber}
 use Rattle.cob_program_options.specs.Looks.{Look}
-use Rattle.cob_program_line.specs.Named.{form_by_letter, letter_of, listing_by_word, measure_by_word, reading_by_word}
+use Rattle.cob_program_line.specs.Named.{binary_by_word, form_by_letter, letter_of, listing_by_word, measure_by_word, zones_by_word}
 use Rattle.cob_program_options.specs.Program.{program_app}
 use Rattle.cob_program_line.specs.declared.fault.LineFault.{LineFault}
 use Rattle.cob_program_line.specs.declared.fault.LineFault.TheVariants as fault
@@ -48,9 +48,17 @@ LacksForm look name = (letter : Text) × (look name ≡ Some letter) × (form_by
 abbrev pub LacksAForm : Look → Type 0
 LacksAForm look = (name : Text) × IsFormName name × LacksForm look name
 
--- the option for the reading of binary items has a word that is none of a reading
+-- the option for the reading of binary items has a word that says none
+abbrev pub LacksBinary : Look → Type 0
+LacksBinary look = (word : Text) × (look (codes "binary") ≡ Some word) × (binary_by_word word ≡ None)
+
+-- the option for the reading of zones has a word that says none
+abbrev pub LacksZones : Look → Type 0
+LacksZones look = (word : Text) × (look (codes "zones") ≡ Some word) × (zones_by_word word ≡ None)
+
+-- an option for the reading of senders has a word that says none
 abbrev pub LacksReading : Look → Type 0
-LacksReading look = (word : Text) × (look (codes "binary") ≡ Some word) × (reading_by_word word ≡ None)
+LacksReading look = LacksBinary look ⊎ LacksZones look
 
 -- the option for a listing of values has a word that is none of a listing
 abbrev pub LacksListing : Look → Type 0

@@ -6,7 +6,7 @@ use Rattle.cob_limits.specs.Limits.{longest_block}
 use Rattle.cob_program_options.specs.Options.{AreOptions, Given, Options, found_at, taken}
 use Rattle.cob_program_options.specs.Commands.{commands}
 use Rattle.cob_program_options.specs.Looks.{Look, is_flagged}
-use Rattle.cob_program_line.specs.Named.{NamesBlock, NamesBound, NamesLrecl, NamesNumber, NamesRightForm, letter_of, sized_by, word_of, word_of_listing, word_of_measure}
+use Rattle.cob_program_line.specs.Named.{NamesBlock, NamesBound, NamesLrecl, NamesNumber, NamesReading, NamesRightForm, letter_of, sized_by, word_of_listing, word_of_measure}
 pub use Rattle.cob_program_line.specs.Faults.{IsFaultOf, is_answer_kind}
 use Rattle.cob_program_line.specs.declared.line.CommandLine.{CommandLine}
 use Rattle.cob_program_line.specs.declared.line.Handing.{Handing}
@@ -31,7 +31,7 @@ pub record NameTexts (look : Look) (texts : TextFiles) : Type 0 where
   pub out_book : look (codes "out-book") ≡ Some texts.out_book.now
   pub moves : look (codes "moves") ≡ Some texts.moves.now
 
--- Options name the forms of both files with the sizes of their blocks, and the reading of binary items.
+-- Options name the forms of both files with the sizes of their blocks, and the reading of senders.
 pub record NameForms (look : Look) (forms : Forms) : Type 0 where
   pub in_letter : look (codes "in-form") ≡ Some (letter_of forms.input)
   pub out_letter : look (codes "out-form") ≡ Some (letter_of forms.output)
@@ -39,7 +39,7 @@ pub record NameForms (look : Look) (forms : Forms) : Type 0 where
   pub out_size : NamesBlock look (codes "out-block") forms.output forms.out_block
   pub in_sized : forms.input ≡ sized_by forms.in_block forms.input
   pub out_sized : forms.output ≡ sized_by forms.out_block forms.output
-  pub word : look (codes "binary") ≡ Some (word_of forms.reading)
+  pub reads : NamesReading look forms.reading
 
 -- options name no forms
 abbrev pub NameNoForms : Look → Type 0
@@ -134,10 +134,11 @@ pub record IsExplain (look : Look) (line : ExplainLine) : Type 0 where
   pub lrecl : NamesLrecl look line.lrecl
   pub number : NamesNumber look (codes "record") 1 line.record
 
--- The options of `draft` name the line's files.
+-- The options of `draft` name the line's files, and the prefixes that are left out.
 pub record IsDraft (look : Look) (line : DraftLine) : Type 0 where
   pub in_book : look (codes "in-book") ≡ Some line.in_book.now
   pub out_book : look (codes "out-book") ≡ Some line.out_book.now
+  pub prefixes : look (codes "strip-prefix") ≡ option_map (λ prefixes. prefixes.now) line.strip_prefix
 
 -- The options of `map` name the line's files, and these are told, its forms, its reading, the record length of its input, and the number of the record.
 pub record IsMap (look : Look) (line : MapLine) : Type 0 where
@@ -165,7 +166,7 @@ IsCommand name look line.Completion = name ≡ codes "completion"
 IsCommand name look line.Manual = name ≡ codes "manual"
 
 -- Options say how copybooks are handed over: where the texts are that they copy, what is replaced in them, where their tab stops are, whether they are in free
--- format, and which of their records are meant. Each of these may be left out.
+-- format, which of their records are meant, and how these are named. Each of these may be left out.
 pub record NameHanding (look : Look) (handing : Handing) : Type 0 where
   pub copy_dirs : look (codes "copy-dir") ≡ option_map (λ dirs. dirs.now) handing.copy_dirs
   pub replace : look (codes "replace") ≡ option_map (λ exchanges. exchanges.now) handing.replace
@@ -174,6 +175,7 @@ pub record NameHanding (look : Look) (handing : Handing) : Type 0 where
   pub in_record : look (codes "in-record") ≡ option_map (λ name. name.now) handing.in_record
   pub out_record : look (codes "out-record") ≡ option_map (λ name. name.now) handing.out_record
   pub one_record : look (codes "record-name") ≡ option_map (λ name. name.now) handing.record
+  pub names : look (codes "records-as") ≡ option_map (λ names. names.now) handing.records_as
 
 -- no option hands anything over
 abbrev pub HandsNothing : Handing → Type 0

@@ -1,9 +1,9 @@
 -- What options name.
-use Rattle.std.specs.Prelude.{◌≡◌, ◌⊎◌, ◌≤◌, ℕ, Some, None, Option, if◌then◌else◌, codes}
+use Rattle.std.specs.Prelude.{◌≡◌, ◌⊎◌, ◌≤◌, ℕ, Bool, true, false, Some, None, Option, if◌then◌else◌, codes}
 use Rattle.std.specs.Str.{bytes_eq}
 use Rattle.clap.specs.Words.{Text}
+use Rattle.cob_codec.specs.Readings.{reads_whole, takes_any_zones}
 use Rattle.cob_codec.specs.declared.reading.Reading.{Reading}
-use Rattle.cob_codec.specs.declared.reading.Reading.TheVariants.{Pictured, Whole}
 use Rattle.cob_records.specs.declared.records.Form.{Form}
 use Rattle.cob_records.specs.declared.records.Form.TheVariants.{Fixed, Variable, Blocked}
 use Rattle.cob_records.specs.BlockSize.{SaysBlockSize}
@@ -33,15 +33,30 @@ sized_by size Fixed = Fixed
 sized_by size Variable = Variable
 sized_by size (Blocked most) = Blocked size
 
--- the word of a reading of binary items
-abbrev pub word_of : Reading → Text
-word_of Pictured = codes "pictured"
-word_of Whole = codes "whole"
+-- the word for whether binary items are read whole
+abbrev pub word_of_binary : Bool → Text
+word_of_binary false = codes "pictured"
+word_of_binary true = codes "whole"
 
--- the reading of a word
-abbrev pub reading_by_word : Text → Option Reading
-reading_by_word word = if bytes_eq word (codes "pictured") then Some Pictured
-    else (if bytes_eq word (codes "whole") then Some Whole else None)
+-- the word for whether items are read by any zones
+abbrev pub word_of_zones : Bool → Text
+word_of_zones false = codes "strict"
+word_of_zones true = codes "any"
+
+-- what a word says of binary items: whether they are read whole
+abbrev pub binary_by_word : Text → Option Bool
+binary_by_word word = if bytes_eq word (codes "pictured") then Some false
+    else (if bytes_eq word (codes "whole") then Some true else None)
+
+-- what a word says of zones: whether items are read by any
+abbrev pub zones_by_word : Text → Option Bool
+zones_by_word word = if bytes_eq word (codes "strict") then Some false
+    else (if bytes_eq word (codes "any") then Some true else None)
+
+-- The options for the reading of senders name this one.
+pub record NamesReading (look : Look) (reading : Reading) : Type 0 where
+  pub binary : look (codes "binary") ≡ Some (word_of_binary (reads_whole reading))
+  pub zones : look (codes "zones") ≡ Some (word_of_zones (takes_any_zones reading))
 
 -- the word of a listing of values
 abbrev pub word_of_listing : Listing → Text

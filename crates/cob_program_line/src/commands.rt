@@ -243,6 +243,7 @@ pub fn draft_line<'a>(options: &ArgMatches<'a>) -> DraftLine<'a>
     DraftLine {
         in_book: named(options, "in-book"),
         out_book: named(options, "out-book"),
+        strip_prefix: named_if_there(options, "strip-prefix"),
     }
 }
 

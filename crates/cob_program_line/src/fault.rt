@@ -17,7 +17,7 @@ pub enum LineFault {
     /// A form of records that is none of f, v and b.
     #[error("bad form")]
     Form,
-    /// A reading of binary items that is neither pictured nor whole.
+    /// A reading of binary items that is neither pictured nor whole, or one of zones that is neither strict nor any.
     #[error("bad reading")]
     Reading,
     /// A greatest size of blocks that is no number of one to five digits from 8 to 32,760.

@@ -121,8 +121,8 @@ pub struct CommandLine<'a> {
     pub handing: Handing<'a>,
 }
 
-/// How copybooks are handed over: where the texts are that they copy, what is replaced in them, how they stand on their lines, and which of their records are
-/// meant.
+/// How copybooks are handed over: where the texts are that they copy, what is replaced in them, how they stand on their lines, which of their records are
+/// meant, and how these are named.
 #[derive(Clone, Copy)]
 pub struct Handing<'a> {
     /// The folders with the texts that COPY names, parted by colons.
@@ -139,6 +139,8 @@ pub struct Handing<'a> {
     pub out_record: Option<&'a str>,
     /// The record of a listing's copybook that is meant.
     pub record: Option<&'a str>,
+    /// How the records of both copybooks are named.
+    pub records_as: Option<&'a str>,
 }
 
 impl Handing<'_> {
@@ -154,6 +156,7 @@ impl Handing<'_> {
             in_record: None,
             out_record: None,
             record: None,
+            records_as: None,
         }
     }
 }
@@ -197,7 +200,7 @@ impl<'a> TextFiles<'a> {
     }
 }
 
-/// How the records of both files of a conversion stand, and how binary items are read.
+/// How the records of both files of a conversion stand, and how senders are read.
 #[derive(Clone, Copy)]
 pub struct Forms {
     /// How the records of the input stand.
@@ -208,7 +211,7 @@ pub struct Forms {
     pub in_block: u16,
     /// The greatest size of the output's blocks, where it has blocks.
     pub out_block: u16,
-    /// How binary items are read that are sent.
+    /// How items are read that are sent.
     pub reading: Reading,
 }
 
@@ -223,7 +226,7 @@ pub struct ConvertLine<'a> {
     pub input: &'a str,
     /// The file that the records go to; `-` is standard output.
     pub output: &'a str,
-    /// How the records of both files stand, and how binary items are read.
+    /// How the records of both files stand, and how senders are read.
     pub forms: Forms,
     /// The record length that the input is said to have, where one is: in form f that of each record, else the greatest, the record descriptor word in it.
     pub lrecl: Option<u64>,
@@ -391,7 +394,7 @@ pub struct ExplainLine<'a> {
     pub texts: TextFiles<'a>,
     /// The file that the records come from; `-` is standard input.
     pub input: &'a str,
-    /// How the records of both files stand, and how binary items are read.
+    /// How the records of both files stand, and how senders are read.
     pub forms: Forms,
     /// The record length that the input is said to have, where one is: in form f that of each record, else the greatest, the record descriptor word in it.
     pub lrecl: Option<u64>,
@@ -414,6 +417,8 @@ pub struct DraftLine<'a> {
     pub in_book: &'a str,
     /// The file with the copybook of the output record.
     pub out_book: &'a str,
+    /// The prefixes that are left out where names are compared, with a comma between that of the input record and that of the output record.
+    pub strip_prefix: Option<&'a str>,
 }
 
 /// The options of `map`.
@@ -425,7 +430,7 @@ pub struct MapLine<'a> {
     pub told: TextFiles<'a>,
     /// The file that a record comes from, where one is shown; `-` is standard input.
     pub input: Option<&'a str>,
-    /// How the records of both files stand, and how binary items are read.
+    /// How the records of both files stand, and how senders are read.
     pub forms: Forms,
     /// The record length that the input is said to have, where one is: in form f that of each record, else the greatest, the record descriptor word in it.
     pub lrecl: Option<u64>,

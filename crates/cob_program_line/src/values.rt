@@ -1,11 +1,11 @@
 //! What the options of a command name, each by itself and in groups.
 
-ghost use Rattle.std.specs.Prelude.{◌≡◌, ◌<◌, ◌≤◌, ℕ, IfErr, IfOk, None, Option, Some, codes, is_some, true};
+ghost use Rattle.std.specs.Prelude.{◌≡◌, ◌<◌, ◌≤◌, ℕ, Bool, IfErr, IfOk, None, Option, Some, codes, is_some, true};
 ghost use Rattle.cob_program_options.specs.Commands.{choice_options, forms_options, piece_options, texts_options};
-ghost use Rattle.cob_program_line.specs.Faults.{HasListing, HasPiece, HasPieces, IsFaultIn, LacksBound, LacksForm, LacksListing, LacksMeasure, LacksNumber, LacksReading, LacksSize};
+ghost use Rattle.cob_program_line.specs.Faults.{HasListing, HasPiece, HasPieces, IsFaultIn, LacksBinary, LacksBound, LacksForm, LacksListing, LacksMeasure, LacksNumber, LacksReading, LacksSize, LacksZones};
 ghost use Rattle.cob_program_line.specs.Lines.{NameChoice, NameForms, NameNoForms, NameHanding, NamePiece, NameTexts};
 ghost use Rattle.cob_program_options.specs.Looks.{AreNamed, look_of};
-ghost use Rattle.cob_program_line.specs.Named.{NamesBlock, NamesBound, NamesLrecl, NamesNumber, NamesRightForm, form_by_letter, letter_of, listing_by_word, measure_by_word, reading_by_word, sized_by, word_of, word_of_listing, word_of_measure};
+ghost use Rattle.cob_program_line.specs.Named.{NamesBlock, NamesBound, NamesLrecl, NamesNumber, NamesReading, NamesRightForm, binary_by_word, form_by_letter, letter_of, listing_by_word, measure_by_word, sized_by, word_of_binary, word_of_listing, word_of_measure, word_of_zones, zones_by_word};
 ghost use Rattle.cob_program_line.specs.Numbers.{SaysNumber};
 ghost use Rattle.cob_program_line.specs.declared.fault.LineFault.TheVariants.{Lrecl};
 ghost use Rattle.cob_limits.specs.Limits.{longest_block};
@@ -33,13 +33,24 @@ fn form_named(letter: &str) -> Option<Form>
     }
 }
 
-// The reading that a word names.
-fn reading_named(word: &str) -> Option<Reading>
-    ensures { result ≡ reading_by_word word.now }
+// What a word says of binary items: whether they are read whole.
+fn binary_named(word: &str) -> Option<bool>
+    ensures { result ≡ binary_by_word word.now }
 {
     match word {
-        "pictured" => Some(Reading::Pictured),
-        "whole" => Some(Reading::Whole),
+        "pictured" => Some(false),
+        "whole" => Some(true),
+        _ => None,
+    }
+}
+
+// What a word says of zones: whether items are read by any.
+fn zones_named(word: &str) -> Option<bool>
+    ensures { result ≡ zones_by_word word.now }
+{
+    match word {
+        "strict" => Some(false),
+        "any" => Some(true),
         _ => None,
     }
 }
@@ -81,17 +92,49 @@ pub(crate) fn form(options: &ArgMatches<'_>, name: &str) -> Result<Form, LineFau
     form_named(named(options, name)).ok_or(LineFault::Form)
 }
 
-// The reading of binary items that its option names, which has a value.
-fn reading(options: &ArgMatches<'_>) -> Result<Reading, LineFault>
+// Whether binary items are read whole, as their option says, which has a value.
+fn binary(options: &ArgMatches<'_>) -> Result<bool, LineFault>
     requires { is_some (look_of options.now (codes "binary")) ≡ true }
-    ensures named { IfOk result (λ reading.
-        look_of options.now (codes "binary") ≡ Some (word_of reading)) }
+    ensures named { IfOk result (λ whole.
+        look_of options.now (codes "binary") ≡ Some (word_of_binary whole)) }
+    ensures lacks { IfErr result (λ _. (whole : Bool)
+        → look_of options.now (codes "binary") ≡ Some (word_of_binary whole) → ⊥) }
+    ensures fault { IfErr result (λ fault. (fault ≡ LineFault.Reading)
+        × LacksBinary (look_of options.now)) }
+{
+    binary_named(named(options, "binary")).ok_or(LineFault::Reading)
+}
+
+// Whether items are read by any zones, as the option for these says, which has a value.
+fn zones(options: &ArgMatches<'_>) -> Result<bool, LineFault>
+    requires { is_some (look_of options.now (codes "zones")) ≡ true }
+    ensures named { IfOk result (λ any.
+        look_of options.now (codes "zones") ≡ Some (word_of_zones any)) }
+    ensures lacks { IfErr result (λ _. (any : Bool)
+        → look_of options.now (codes "zones") ≡ Some (word_of_zones any) → ⊥) }
+    ensures fault { IfErr result (λ fault. (fault ≡ LineFault.Reading)
+        × LacksZones (look_of options.now)) }
+{
+    zones_named(named(options, "zones")).ok_or(LineFault::Reading)
+}
+
+// The reading of senders that its options name, which have values.
+fn reading(options: &ArgMatches<'_>) -> Result<Reading, LineFault>
+    requires binary { is_some (look_of options.now (codes "binary")) ≡ true }
+    requires zones { is_some (look_of options.now (codes "zones")) ≡ true }
+    ensures named { IfOk result (NamesReading (look_of options.now)) }
     ensures lacks { IfErr result (λ _. (reading : Reading)
-        → look_of options.now (codes "binary") ≡ Some (word_of reading) → ⊥) }
+        → NamesReading (look_of options.now) reading → ⊥) }
     ensures fault { IfErr result (λ fault. (fault ≡ LineFault.Reading)
         × LacksReading (look_of options.now)) }
 {
-    reading_named(named(options, "binary")).ok_or(LineFault::Reading)
+    match binary(options) {
+        Ok(whole) => match zones(options) {
+            Ok(any) => Ok(Reading::of(whole, any)),
+            Err(told) => Err(told),
+        },
+        Err(told) => Err(told),
+    }
 }
 
 // The listing of values that its option names, which has a value.
@@ -254,7 +297,7 @@ pub(crate) fn texts_of<'a>(options: &ArgMatches<'a>) -> TextFiles<'a>
     }
 }
 
-// The forms of both files, the greatest sizes of their blocks, and the reading of binary items.
+// The forms of both files, the greatest sizes of their blocks, and the reading of senders.
 pub(crate) fn forms_of(options: &ArgMatches<'_>) -> Result<Forms, LineFault>
     requires named { AreNamed forms_options (look_of options.now) }
     requires only { look_of options.now (codes "form") ≡ None }
@@ -348,5 +391,6 @@ pub(crate) fn handing_of<'a>(options: &ArgMatches<'a>) -> Handing<'a>
         in_record: named_if_there(options, "in-record"),
         out_record: named_if_there(options, "out-record"),
         record: named_if_there(options, "record-name"),
+        records_as: named_if_there(options, "records-as"),
     }
 }

@@ -19,14 +19,23 @@ pub(crate) enum Values<'a> {
     Words(&'a str),
 }
 
+/// The readings of which this one is the default.
+fn readings(default: &str) -> &'static str {
+    match default {
+        "strict" => "strict any",
+        _ => "pictured whole",
+    }
+}
+
 /// What completes the value of this name, beside its default.
 fn values_for<'a>(value: &str, default: Option<&'a str>) -> Values<'a> {
     match value {
         "<FILE>" => Values::Files,
         "<FORM>" => Values::Words("f v b"),
-        "<READING>" => Values::Words("pictured whole"),
+        "<READING>" => Values::Words(readings(default.unwrap_or(""))),
         "<LISTING>" => Values::Words("text json csv"),
         "<MEASURE>" => Values::Words("value bytes"),
+        "<HOW>" => Values::Words("own in-out"),
         _ => Values::Words(default.unwrap_or("")),
     }
 }

@@ -24,10 +24,11 @@ lrecl_options = (codes "lrecl", Optional) ∷ []
 abbrev pub records_options : Options
 records_options = (codes "book", Required) ∷ (codes "in", Required) ∷ (codes "form", Default (codes "f")) ∷ lrecl_options
 
--- the options for the forms of both files, the greatest sizes of their blocks, and the reading of binary items
+-- the options for the forms of both files, the greatest sizes of their blocks, and the reading of senders
 abbrev pub forms_options : Options
 forms_options = (codes "in-form", Default (codes "f")) ∷ (codes "out-form", Default (codes "f"))
-    ∷ (codes "in-block", Default (codes "32760")) ∷ (codes "out-block", Default (codes "32760")) ∷ (codes "binary", Default (codes "pictured")) ∷ []
+    ∷ (codes "in-block", Default (codes "32760")) ∷ (codes "out-block", Default (codes "32760")) ∷ (codes "binary", Default (codes "pictured"))
+    ∷ (codes "zones", Default (codes "strict")) ∷ []
 
 -- the options for a piece of the input
 abbrev pub piece_options : Options
@@ -53,9 +54,9 @@ report_options = (codes "report", Optional) ∷ []
 abbrev pub copies_options : Options
 copies_options = (codes "copy-dir", Optional) ∷ (codes "replace", Optional) ∷ (codes "tabs", Optional) ∷ (codes "free", Alone) ∷ []
 
--- the options for how both copybooks are handed over: these, and the records of theirs that are meant
+-- the options for how both copybooks are handed over: these, the records of theirs that are meant, and how they are named
 abbrev pub books_handing : Options
-books_handing = copies_options ++ (codes "in-record", Optional) ∷ (codes "out-record", Optional) ∷ []
+books_handing = copies_options ++ (codes "in-record", Optional) ∷ (codes "out-record", Optional) ∷ (codes "records-as", Optional) ∷ []
 
 -- the options for how the copybook of a listing is handed over
 abbrev pub book_handing : Options
@@ -106,7 +107,7 @@ explain_options = texts_options ++ (codes "in", Required) ∷ forms_options ++ l
 
 -- the options of `draft`
 abbrev pub draft_options : Options
-draft_options = books_options ++ books_handing ++ shared_options
+draft_options = books_options ++ (codes "strip-prefix", Optional) ∷ books_handing ++ shared_options
 
 -- the options of `map`
 abbrev pub map_options : Options

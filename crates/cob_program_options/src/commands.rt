@@ -12,7 +12,7 @@ use crate::definition::CommandDefinition;
 use crate::options::{
     ATOMIC, BOOK, BOOKS, BOTH_RECORDS, BOTH_WAYS, CHOICE, COMPARED, COMPARISON, COPIES, COVER, CUT,
     ENDS, EXPLAINED_RECORDS, FORM, FORMS, LISTING, LRECL, MAPPED_RECORDS, MOVES, ONE_RECORD, PIECE,
-    PIECES, PROGRESS, RECORD, REJECTS, REPORT, SHARED, SHARED_LIST, SHARED_RUN, SHOWN,
+    PIECES, PREFIXES, PROGRESS, RECORD, REJECTS, REPORT, SHARED, SHARED_LIST, SHARED_RUN, SHOWN,
 };
 use clap::Command;
 use std::alloc::{AllocError, Global};
@@ -53,6 +53,7 @@ In a copybook:
   B15  over 2,000 entries
   B16  no record, or several, of the name that is chosen
   B17  a text that is copied, by C1 to C7
+  B18  a record that can't have the name that --records-as gives it
 In a paragraph:
   M1   the grammar of statements
   M2   no entry has this name with these qualifiers
@@ -228,7 +229,7 @@ const COMMANDS: [CommandDefinition<'static>; 10] = [
         about: "Print a paragraph to begin with, of moves between items of one name",
         usage: None,
         notes: DRAFT_NOTES,
-        groups: &[&BOOKS, &COPIES, &BOTH_RECORDS, &SHARED],
+        groups: &[&BOOKS, &PREFIXES, &COPIES, &BOTH_RECORDS, &SHARED],
     },
     CommandDefinition {
         name: "map",

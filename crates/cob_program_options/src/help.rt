@@ -8,6 +8,10 @@ pub(crate) const FORM_HELP: &str =
 pub(crate) const BINARY_HELP: &str =
     "How binary senders are read: pictured, as far as the\ndigits of their picture hold them, or whole, as the\nnumber of all their bytes";
 
+// What `--zones` names.
+pub(crate) const ZONES_HELP: &str =
+    "How zones of senders are read: strict, as their places\nask, or any: a digit is the low half of its byte, and\npacked items full of spaces or zeros are zero";
+
 // What `--as` names.
 pub(crate) const LISTING_HELP: &str =
     "How values are listed: text, a line for each;\njson or csv, a line for each record";
@@ -41,6 +45,13 @@ pub(crate) const COPY_DIR_HELP: &str =
 
 pub(crate) const REPLACE_HELP: &str =
     "Put Y for each X in the copybooks; several of these\nare parted by semicolons";
+
+// What `--records-as` and `--strip-prefix` name.
+pub(crate) const RECORDS_AS_HELP: &str =
+    "How both records are named: own, as the copybooks say;\nor in-out, IN-RECORD and OUT-RECORD";
+
+pub(crate) const STRIP_PREFIX_HELP: &str =
+    "Pair names without these prefixes, as in IN-,OUT-;\none alone is that of both records";
 
 // What `--tabs` names, and what `--free` does.
 pub(crate) const TABS_HELP: &str =

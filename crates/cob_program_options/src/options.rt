@@ -4,7 +4,8 @@ use crate::definition::{OptionDefinition, Standing};
 use crate::help::{
     ATOMIC_HELP, BINARY_HELP, COPY_DIR_HELP, EXPLAINED_HELP, EXPLAINED_LIST_HELP,
     EXPLAINED_RUN_HELP, FORM_HELP, FREE_HELP, IGNORE_HELP, KEY_HELP, LISTING_HELP, LRECL_HELP,
-    MEASURE_HELP, PROGRESS_HELP, REPLACE_HELP, REPORT_HELP, STRICT_HELP, TABS_HELP,
+    MEASURE_HELP, PROGRESS_HELP, RECORDS_AS_HELP, REPLACE_HELP, REPORT_HELP, STRICT_HELP,
+    STRIP_PREFIX_HELP, TABS_HELP, ZONES_HELP,
 };
 
 // How an option stands for a form, which is f where it is not there, and for the greatest size of blocks.
@@ -47,8 +48,8 @@ pub(crate) const ENDS: [OptionDefinition<'static>; 2] = [
     },
 ];
 
-// The forms of both files, the greatest sizes of their blocks, and the reading of binary items.
-pub(crate) const FORMS: [OptionDefinition<'static>; 5] = [
+// The forms of both files, the greatest sizes of their blocks, and the reading of senders.
+pub(crate) const FORMS: [OptionDefinition<'static>; 6] = [
     OptionDefinition {
         name: "in-form",
         standing: FORM_OR_FIXED,
@@ -73,6 +74,11 @@ pub(crate) const FORMS: [OptionDefinition<'static>; 5] = [
         name: "binary",
         standing: Standing::Default("READING", "pictured"),
         help: BINARY_HELP,
+    },
+    OptionDefinition {
+        name: "zones",
+        standing: Standing::Default("READING", "strict"),
+        help: ZONES_HELP,
     },
 ];
 
@@ -338,8 +344,15 @@ pub(crate) const COPIES: [OptionDefinition<'static>; 4] = [
     },
 ];
 
-// Which records of both copybooks are meant.
-pub(crate) const BOTH_RECORDS: [OptionDefinition<'static>; 2] = [
+// The prefixes of names that a draft leaves out.
+pub(crate) const PREFIXES: [OptionDefinition<'static>; 1] = [OptionDefinition {
+    name: "strip-prefix",
+    standing: Standing::Optional("IN,OUT"),
+    help: STRIP_PREFIX_HELP,
+}];
+
+// Which records of both copybooks are meant, and how they are named.
+pub(crate) const BOTH_RECORDS: [OptionDefinition<'static>; 3] = [
     OptionDefinition {
         name: "in-record",
         standing: Standing::Optional("NAME"),
@@ -349,6 +362,11 @@ pub(crate) const BOTH_RECORDS: [OptionDefinition<'static>; 2] = [
         name: "out-record",
         standing: Standing::Optional("NAME"),
         help: "The record that is meant, of several in --out-book",
+    },
+    OptionDefinition {
+        name: "records-as",
+        standing: Standing::Optional("HOW"),
+        help: RECORDS_AS_HELP,
     },
 ];
 

@@ -8,7 +8,7 @@ use cob_convert::{PrepareFault, Status};
 use cob_layout::{Book, BookFault, BookRule, Layout, Role};
 use cob_program_faults::{CommandFault, FileName, printed, tell_fault, text_of};
 use cob_program_line::DraftLine;
-use cob_report_draft::{Draft, Lacking, draft_of};
+use cob_report_draft::{Draft, Lacking, Prefixes, draft_of};
 use std::alloc::Global;
 use std::io::{Eprint, Print};
 use std::rt::Files;
@@ -56,12 +56,26 @@ fn layout_of(alloc: Global, role: Role, text: &[u8]) -> Result<Layout, CommandFa
     }
 }
 
+/// The prefixes of the names of the input record and of the output record, which a comma parts; one alone is that of both.
+fn prefixes_in(said: &str) -> Prefixes<'_> {
+    let (input, output) = said.split_once(',').unwrap_or((said, said));
+    Prefixes {
+        input: input.as_bytes(),
+        output: output.as_bytes(),
+    }
+}
+
 /// A paragraph to begin with, between the records of a layout and a copybook.
-fn draft_to(alloc: Global, input: &Layout, out_book: &[u8]) -> Result<Draft, CommandFault>
+fn draft_to(
+    alloc: Global,
+    input: &Layout,
+    out_book: &[u8],
+    prefixes: Prefixes<'_>,
+) -> Result<Draft, CommandFault>
     ensures { IfErr result MayEndDraft }
 {
     match layout_of(alloc, Role::Out, out_book) {
-        Ok(output) => match draft_of(alloc, input, &output) {
+        Ok(output) => match draft_of(alloc, input, &output, prefixes) {
             Ok(draft) => Ok(draft),
             Err(_) => Err(CommandFault::Memory),
         },
@@ -70,11 +84,16 @@ fn draft_to(alloc: Global, input: &Layout, out_book: &[u8]) -> Result<Draft, Com
 }
 
 /// A paragraph to begin with, between the records of two copybooks.
-fn draft_between(alloc: Global, in_book: &[u8], out_book: &[u8]) -> Result<Draft, CommandFault>
+fn draft_between(
+    alloc: Global,
+    in_book: &[u8],
+    out_book: &[u8],
+    prefixes: Prefixes<'_>,
+) -> Result<Draft, CommandFault>
     ensures { IfErr result MayEndDraft }
 {
     match layout_of(alloc, Role::In, in_book) {
-        Ok(input) => draft_to(alloc, &input, out_book),
+        Ok(input) => draft_to(alloc, &input, out_book, prefixes),
         Err(fault) => Err(fault),
     }
 }
@@ -89,7 +108,11 @@ pub fn drafted<R: AllocGlobal + Files>(rt: &R, line: &DraftLine<'_>) -> Result<D
 {
     let in_book = text_of(rt, line.in_book, FileName::InBook)?;
     let out_book = text_of(rt, line.out_book, FileName::OutBook)?;
-    draft_between(rt.alloc(), &in_book, &out_book)
+    let said = line
+        .strip_prefix
+        .unwrap_or("")
+        .to_ascii_uppercase(rt.alloc())?;
+    draft_between(rt.alloc(), &in_book, &out_book, prefixes_in(&said))
 }
 
 /// Prints on standard error what a draft lacks, if it lacks something, and answers how the command ends.

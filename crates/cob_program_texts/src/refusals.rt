@@ -3,7 +3,9 @@ ghost use Rattle.cob_program_texts.specs.Answers.{refusal_back, refusal_there};
 
 use cob_convert::PrepareFault;
 use cob_copybook::{Book, BookRule, Role};
+use cob_copybook_conditions::{ConditionName, condition_names};
 use cob_layout::Layout;
+use cob_move_names::ConditionNames;
 use cob_program_faults::{CommandFault, FileName};
 use cob_report_refusals::MoveRefusal;
 use cob_report_refused_moves::move_refusals;
@@ -46,17 +48,34 @@ fn layout_of(alloc: Global, role: Role, text: &[u8]) -> Result<Option<Layout>, A
     }
 }
 
-/// What is refused of a paragraph from the record of a layout, nothing where the other copybook is none.
+/// The condition-names of a copybook, none where it is none.
+fn names_of(alloc: Global, text: &[u8]) -> Result<Vec<ConditionName>, AllocError> {
+    match condition_names(alloc, text) {
+        Ok(names) => Ok(names),
+        Err(fault) => match fault.rule {
+            BookRule::Memory => Err(AllocError),
+            _ => Ok(Vec::new(alloc)),
+        },
+    }
+}
+
+/// What is refused of a paragraph from the record of a layout, whose copybook has these condition-names, nothing where the other copybook is none.
 fn refusals_from(
     alloc: Global,
     input: &Layout,
+    in_names: &[ConditionName],
     out_book: &[u8],
     moves: &[u8],
 ) -> Result<Vec<MoveRefusal>, AllocError> {
-    match layout_of(alloc, Role::Out, out_book)? {
-        Some(output) => move_refusals(alloc, input, &output, moves),
-        None => Ok(Vec::new(alloc)),
-    }
+    let Some(output) = layout_of(alloc, Role::Out, out_book)? else {
+        return Ok(Vec::new(alloc));
+    };
+    let out_names = names_of(alloc, out_book)?;
+    let names = ConditionNames {
+        input: in_names,
+        output: out_names.as_slice(),
+    };
+    move_refusals(alloc, input, &output, names, moves)
 }
 
 /// What is refused of a paragraph between the records of two copybooks, nothing where one of these is none.
@@ -70,8 +89,9 @@ pub fn paragraph_refusals(
     out_book: &[u8],
     moves: &[u8],
 ) -> Result<Vec<MoveRefusal>, AllocError> {
-    match layout_of(alloc, Role::In, in_book)? {
-        Some(input) => refusals_from(alloc, &input, out_book, moves),
-        None => Ok(Vec::new(alloc)),
-    }
+    let Some(input) = layout_of(alloc, Role::In, in_book)? else {
+        return Ok(Vec::new(alloc));
+    };
+    let names = names_of(alloc, in_book)?;
+    refusals_from(alloc, &input, names.as_slice(), out_book, moves)
 }

@@ -1,14 +1,15 @@
 //! A paragraph to begin with.
 
+use crate::compared::fits;
 use crate::counts::counts_among;
 use crate::instead::{SEVERAL, UNNAMED};
-use crate::pairs::{Records, is_own_group, is_own_item, paired};
+use crate::pairs::{Records, has_namesake, is_own_group, is_own_item, paired};
 use crate::progress::{DraftProgress, Saying};
 use crate::words::CounterNames;
 use crate::writing::DraftText;
 use cob_layout::Layout;
 use cob_limits::MAX_SUBSCRIPTS;
-use cob_report_partners::{DraftBearer, Partner, counter_name, partner_of};
+use cob_report_partners::{DraftBearer, Partner, Prefixes, counter_name};
 use std::alloc::{AllocError, Global};
 use std::fmt;
 
@@ -21,6 +22,12 @@ pub enum Lacking {
     Lines,
     /// Statements for which its loops have no room.
     Turns,
+    /// A statement, where both records have one name, so that none tells two of their entries apart.
+    TwoNames,
+    /// A name of the input record that begins with its prefix.
+    InputPrefix,
+    /// A name of the output record that begins with its prefix.
+    OutputPrefix,
 }
 
 impl fmt::Display for Lacking {
@@ -29,6 +36,11 @@ impl fmt::Display for Lacking {
             Lacking::Statement => "the paragraph lacks a statement",
             Lacking::Lines => "the paragraph lacks the lines that its text has no room for",
             Lacking::Turns => "the paragraph lacks the statements that its loops have no room for",
+            Lacking::TwoNames => {
+                "the paragraph lacks a statement: both records have one name, say --records-as in-out"
+            }
+            Lacking::InputPrefix => "no name of the input record begins with its prefix",
+            Lacking::OutputPrefix => "no name of the output record begins with its prefix",
         })
     }
 }
@@ -47,7 +59,7 @@ impl<'s, 'a> DraftProgress<'s, 'a> {
         records: &'s Records<'a>,
         to: &'s DraftBearer<'a>,
     ) -> Result<(), AllocError> {
-        match partner_of(self.alloc, &records.both, to)? {
+        match records.partner_of(self.alloc, to)? {
             Partner::Missing => Ok(()),
             Partner::Several => self.push_piece(to, Saying::Noted(SEVERAL)),
             Partner::One(from) => match paired(&records.both, from, to) {
@@ -173,18 +185,69 @@ fn written(
     Ok(draft_in(progress, text))
 }
 
-/// A draft between two records.
-fn draft_between(alloc: Global, records: &Records<'_>) -> Result<Draft, AllocError> {
-    let progress = progress_of(alloc, records)?;
-    written(alloc, records, &progress)
+/// Whether both records have a name, and it is one.
+fn have_one_name(records: &Records<'_>) -> bool {
+    let input = records.both.inputs().get(..1);
+    match (input, records.both.outputs().first()) {
+        (Some(input), Some(output)) => has_namesake(input, output),
+        _ => false,
+    }
 }
 
-/// A paragraph to begin with, between the records of two layouts.
+/// Whose names do not begin with its prefix, if there is such a record. Of one prefix for both records, one of them has to have it.
+fn unfit(records: &Records<'_>, prefixes: Prefixes<'_>) -> Option<Lacking> {
+    let input = fits(prefixes.input, records.both.inputs());
+    let output = fits(prefixes.output, records.both.outputs());
+    let one_fits = prefixes.input == prefixes.output && (input || output);
+    if one_fits || (input && output) {
+        return None;
+    }
+    if input {
+        Some(Lacking::OutputPrefix)
+    } else {
+        Some(Lacking::InputPrefix)
+    }
+}
+
+/// What a draft is told to lack: first the names that a prefix asks for.
+fn lacking_told(
+    records: &Records<'_>,
+    prefixes: Prefixes<'_>,
+    lacking: Option<Lacking>,
+) -> Option<Lacking> {
+    match (unfit(records, prefixes), lacking) {
+        (Some(unfit), _) => Some(unfit),
+        (None, Some(Lacking::Statement)) if have_one_name(records) => Some(Lacking::TwoNames),
+        (None, lacking) => lacking,
+    }
+}
+
+/// A draft between two records.
+fn draft_between(
+    alloc: Global,
+    records: &Records<'_>,
+    prefixes: Prefixes<'_>,
+) -> Result<Draft, AllocError> {
+    let progress = progress_of(alloc, records)?;
+    let Draft { text, lacking } = written(alloc, records, &progress)?;
+    Ok(Draft {
+        text,
+        lacking: lacking_told(records, prefixes, lacking),
+    })
+}
+
+/// A paragraph to begin with, between the records of two layouts. Names are compared without these prefixes, and written as they are.
 ///
 /// # Errors
 ///
 /// Where no memory is left.
-pub fn draft_of(alloc: Global, input: &Layout, output: &Layout) -> Result<Draft, AllocError> {
-    let records = Records::of(alloc, input, output)?;
-    draft_between(alloc, &records)
+pub fn draft_of(
+    alloc: Global,
+    input: &Layout,
+    output: &Layout,
+    prefixes: Prefixes<'_>,
+) -> Result<Draft, AllocError> {
+    let mut records = Records::of(alloc, input, output)?;
+    records.compare_behind(alloc, prefixes)?;
+    draft_between(alloc, &records, prefixes)
 }

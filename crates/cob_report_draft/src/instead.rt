@@ -7,7 +7,7 @@ use crate::pairs::{
 use crate::progress::{DraftProgress, Saying, is_of_bytes};
 use crate::shares::Share;
 use cob_copybook_tree::Kind;
-use cob_report_partners::{DraftBearer, Partner, only_item_beneath, partner_of, partner_within};
+use cob_report_partners::{DraftBearer, Partner, only_item_beneath};
 use std::alloc::AllocError;
 
 /// What is said of an item whose partner isn't known.
@@ -48,10 +48,11 @@ fn has_items(outputs: &[DraftBearer<'_>], group: &DraftBearer<'_>) -> bool {
 
 /// Why an item of the output record has no partner.
 fn missing_words(records: &Records<'_>, to: &DraftBearer<'_>) -> &'static str {
-    if has_namesake(records.both.inputs(), to) {
-        "no entry of its name is its partner"
-    } else {
-        "no entry has its name"
+    match records.compared_output(to) {
+        Some(to) if has_namesake(records.compared().inputs(), to) => {
+            "no entry of its name is its partner"
+        }
+        _ => "no entry has its name",
     }
 }
 
@@ -94,7 +95,7 @@ impl<'s, 'a> DraftProgress<'s, 'a> {
         records: &'s Records<'a>,
         to: &'s DraftBearer<'a>,
     ) -> Result<bool, AllocError> {
-        let Partner::One(from) = partner_of(self.alloc, &records.both, to)? else {
+        let Partner::One(from) = records.partner_of(self.alloc, to)? else {
             return Ok(false);
         };
         if !is_item(from) {
@@ -150,7 +151,7 @@ impl<'s, 'a> DraftProgress<'s, 'a> {
         to: &'s DraftBearer<'a>,
     ) -> Result<Option<&'static str>, AllocError> {
         let sending = group.from;
-        match partner_within(self.alloc, &records.both, &sending.entry, to)? {
+        match records.partner_within(self.alloc, &sending.entry, to)? {
             Partner::Missing => Ok(Some(missing_words(records, to))),
             Partner::Several => Ok(Some(SEVERAL)),
             Partner::One(from) => match paired(&records.both, from, to) {
@@ -169,7 +170,7 @@ impl<'s, 'a> DraftProgress<'s, 'a> {
         records: &'s Records<'a>,
         to: &'s DraftBearer<'a>,
     ) -> Result<(), AllocError> {
-        let Partner::One(from) = partner_of(self.alloc, &records.both, to)? else {
+        let Partner::One(from) = records.partner_of(self.alloc, to)? else {
             return Ok(());
         };
         if !is_item(from) {

@@ -10,7 +10,7 @@
 //! elements, or a number that a count says. A loop holds all that is said of its table's items, as long as it goes as far: so pieces are collected first, and
 //! then written (`DraftText`). The move of a count stands in front where a statement fills its table (`CountProgress`).
 //!
-//! [`draft_of`] writes the paragraph. Which entry is the partner of one, what is against a move, with how many qualifiers an entry is named and which names
+//! [`draft_of`] writes the paragraph. Names may have prefixes that differ: they are compared without these, and written as they are. Which entry is the partner of one, what is against a move, with how many qualifiers an entry is named and which names
 //! counters have is promised by `cob_report_partners`, and by `cob_layout_steady` which items begin at the same byte of each record. What is promised here:
 //!
 //! - no line reaches behind column 72 (`line_end`);
@@ -27,6 +27,7 @@
 //! it has there (`subscripts_of`); the laws `loops_name_elements` and `counted_loops_name_elements`. The text is shown by rows, which read it back and ask what its moves may lose.
 #![tactic(auto)]
 
+mod compared;
 mod counts;
 mod drafting;
 mod held;
@@ -41,5 +42,6 @@ mod shares;
 mod words;
 mod writing;
 
+pub use cob_report_partners::Prefixes;
 pub use drafting::{Draft, Lacking, draft_of};
 pub use loops::{counted_loops_name_elements, loops_name_elements};

@@ -12,6 +12,8 @@ use std::alloc::{AllocError, Global};
 #[derive(Drop)]
 pub(crate) struct Records<'a> {
     pub(crate) both: BothRecords<'a>,
+    /// The same entries as they are compared, where prefixes of their names are left out.
+    pub(crate) behind: Option<BothRecords<'a>>,
     pub(crate) input: &'a Layout,
     pub(crate) output: &'a Layout,
     /// The tables of the output record.
@@ -62,6 +64,7 @@ impl<'a> Records<'a> {
         match tables_and_counts(alloc, &both) {
             Ok((tables, named)) => Ok(Records {
                 both,
+                behind: None,
                 input,
                 output,
                 tables,

@@ -3,3 +3,4 @@ pub mod RecordLemmas
 pub mod SoughtLemmas
 pub mod CounterLemmas
 pub mod BoundLemmas
+pub mod PrefixLemmas

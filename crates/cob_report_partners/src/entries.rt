@@ -59,7 +59,7 @@ struct Setting {
 }
 
 /// The same tables once more.
-fn copied(tables: &[TableSize]) -> TableSizes
+pub(crate) fn copied(tables: &[TableSize]) -> TableSizes
     requires { length tables.now ≤ most_dimensions }
     ensures { result.items ≡ tables.now }
 {

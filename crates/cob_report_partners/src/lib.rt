@@ -7,6 +7,9 @@
 //! - [`partner_of`] answers the only candidate, or that there is none, or several (`IsOnly` and `candidates_for` of specs/Partners.antt): candidates
 //!   are those of the same name whose groups have the same names, the records and FILLER left out, and where there are none those of which this holds
 //!   where names are left out that no group of the other record has;
+//! - [`BothRecords::behind`] answers the entries of both records as they are compared where their names have prefixes that differ: without these, and all else as it
+//!   is (`AreBehind` of specs/Prefixes.antt). So a partner is sought among these by the same calls. Behind no prefix each name is as it is
+//!   ([`no_prefix_changes_nothing`]);
 //! - [`partner_within`] answers the same for an item of a group that receives an item. First are those of its name in redefinitions of the item that is
 //!   sent (`candidates_within`);
 //! - [`only_item_beneath`] answers the only item of a group that an item may receive in the group's place (`items_beneath`): the only one with a name that is
@@ -25,8 +28,8 @@
 //!
 //! # Where it is proved
 //!
-//! The clauses of `entries_of`, `partner_of`, `partner_within`, `only_item_beneath`, `objection_to`, `bound_of`, `qualifiers_needed` and `counter_name`; the
-//! laws `counters_are_apart` and `loops_stay_within_counts`.
+//! The clauses of `entries_of`, `BothRecords::behind`, `partner_of`, `partner_within`, `only_item_beneath`, `objection_to`, `bound_of`, `qualifiers_needed` and `counter_name`; the
+//! laws `counters_are_apart`, `loops_stay_within_counts` and `no_prefix_changes_nothing`.
 #![tactic(auto)]
 
 mod bounds;
@@ -37,6 +40,7 @@ mod judge;
 mod names;
 mod naming;
 mod partners;
+mod prefixes;
 mod records;
 mod words;
 
@@ -48,4 +52,5 @@ pub use entries::{DraftBearer, DraftEntry, TableSizes, entries_of};
 pub use judge::{Objection, objection_to};
 pub use naming::qualifiers_needed;
 pub use partners::{Partner, only_item_beneath, partner_of, partner_within};
+pub use prefixes::{Prefixes, begins_with, no_prefix_changes_nothing};
 pub use records::BothRecords;

@@ -76,6 +76,22 @@ impl<'a> BothRecords<'a> {
     {
         let inputs = listed(alloc, Side::In, input)?;
         let outputs = listed(alloc, Side::Out, output)?;
+        BothRecords::joined(alloc, inputs, outputs)
+    }
+
+    /// These entries of both records, and what is found out of them.
+    ///
+    /// # Errors
+    ///
+    /// Where no memory is left.
+    pub(crate) fn joined(
+        alloc: Global,
+        inputs: Vec<DraftBearer<'a>>,
+        outputs: Vec<DraftBearer<'a>>,
+    ) -> Result<BothRecords<'a>, AllocError>
+        ensures inputs { IfOk result (λ r. r.inputs.items ≡ inputs.entry.items) }
+        ensures outputs { IfOk result (λ r. r.outputs.items ≡ outputs.entry.items) }
+    {
         let groups = GroupNames::of(alloc, inputs.as_slice())?;
         let output_groups = GroupNames::of(alloc, outputs.as_slice())?;
         let shared = shared_names(alloc, &output_groups, inputs.as_slice())?;

@@ -113,6 +113,17 @@ fn bearer_from<'a>(book: BookWords<'a>, from: usize, looked: Looked<'_>) -> Opti
 }
 
 impl<'a> BothWords<'a> {
+    /// The name of both records, where they have one.
+    pub(crate) fn shared_name(self) -> Option<&'a Token> {
+        let name = self.input.record_word()?;
+        let other = self.output.record_word()?;
+        if name.text.as_slice() == other.text.as_slice() {
+            Some(name)
+        } else {
+            None
+        }
+    }
+
     /// How many entries of both records are looked for.
     pub(crate) fn count(self, looked: Looked<'_>) -> usize {
         let of_input = found_in(self.input.words, looked).count;

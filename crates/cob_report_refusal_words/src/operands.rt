@@ -150,13 +150,24 @@ fn several_words<'a>(both: BothWords<'a>, word: &'a Token, first: Bearer<'a>) ->
     )
 }
 
+/// How the first of several entries with a name is told apart; where both records have one name, how the records are.
+fn apart_words<'a>(both: BothWords<'a>, word: &'a Token, first: Bearer<'a>) -> Phrase<'a> {
+    match both.shared_name() {
+        Some(name) => Phrase::of(
+            "both records are named {}: --records-as in-out tells them apart",
+            Part::Word(name),
+        ),
+        None => Phrase::of_two("write {} OF {}", Part::Word(word), first.book.record_part()),
+    }
+}
+
 /// What is told of a name that several entries have.
 pub(crate) fn told_ambiguous<'a>(both: BothWords<'a>, statement: &'a [Token]) -> Told<'a> {
     match ambiguous_name(both, statement) {
         Some((word, first)) => advised(
             Some(Caret::under(word)),
             several_words(both, word, first),
-            Phrase::of_two("write {} OF {}", Part::Word(word), first.book.record_part()),
+            apart_words(both, word, first),
         ),
         None => said_plainly(
             statement,

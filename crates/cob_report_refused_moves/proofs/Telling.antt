@@ -7,6 +7,7 @@ use Rattle.cob_source.specs.Tokens.{Lexeme}
 use Rattle.cob_source.specs.Words.{AreParagraphWordsOf}
 use Rattle.cob_copybook_tree.specs.Forests.{Forest}
 use Rattle.cob_copybook_tree.specs.Nodes.{Resolved}
+use Rattle.cob_move_names.specs.Valued.{PlainConditionNames}
 use Rattle.cob_move_statements.specs.declared.fault.MoveFault.{MoveFault}
 use Rattle.cob_move.specs.Bodies.{IsBodyIn}
 use Rattle.cob_move.specs.Paragraphs.{IsRefusalOf}
@@ -23,9 +24,9 @@ all_before P [] b h = (tt, h)
 all_before P (x ∷ a) b h = let (p, q) = all_before P a b h.1 in ((h.0, p), q)
 
 -- one more is told
-pub all_pushed : (text : List ℕ) (input output : Forest Resolved) (a : List MoveRefusal) (r : MoveRefusal) (items : List MoveRefusal) → items ≡ a ++ r ∷ []
-    → AreMoveRefusals text input output a → IsMoveRefusal text input output r → AreMoveRefusals text input output items
-all_pushed text input output a r items e all told = subst (AreMoveRefusals text input output) (sym e) (all_behind (IsMoveRefusal text input output) a (r ∷ []) all (told, tt))
+pub all_pushed : (text : List ℕ) (input output : Forest Resolved) (names : PlainConditionNames) (a : List MoveRefusal) (r : MoveRefusal) (items : List MoveRefusal) → items ≡ a ++ r ∷ []
+    → AreMoveRefusals text input output names a → IsMoveRefusal text input output names r → AreMoveRefusals text input output names items
+all_pushed text input output names a r items e all told = subst (AreMoveRefusals text input output names) (sym e) (all_behind (IsMoveRefusal text input output names) a (r ∷ []) all (told, tt))
 
 -- the statements of words that stand in the body of a text are those of the text
 pub has_run : (text : List ℕ) (input output : Forest Resolved) (words body run : List Lexeme) → AreParagraphWordsOf text words → IsBodyIn words body → IsRunOf run body → HasRun text input output run
@@ -45,9 +46,9 @@ has_run text input output words body run are is on = λ f own one refused. (
 )
 
 -- a refusal, and others before and behind
-pub begin_all : (text : List ℕ) (input output : Forest Resolved) (r : MoveRefusal) (before behind items : List MoveRefusal) → items ≡ (r ∷ before) ++ behind
-    → IsRefusalOf r.fault text input output → IfSome r.at (IsRefusedThere r.fault text input output) → AreMoveRefusals text input output before → AreMoveRefusals text input output behind → AreMoveRefusals text input output items
-begin_all text input output r before behind items e h at a b = subst (AreMoveRefusals text input output) (sym e) ((inl h, at), all_behind (IsMoveRefusal text input output) before behind a b)
+pub begin_all : (text : List ℕ) (input output : Forest Resolved) (names : PlainConditionNames) (r : MoveRefusal) (before behind items : List MoveRefusal) → items ≡ (r ∷ before) ++ behind
+    → IsRefusalOf r.fault text input output names → IfSome r.at (IsRefusedThere r.fault text input output) → AreMoveRefusals text input output names before → AreMoveRefusals text input output names behind → AreMoveRefusals text input output names items
+begin_all text input output names r before behind items e h at a b = subst (AreMoveRefusals text input output names) (sym e) ((inl h, at), all_behind (IsMoveRefusal text input output names) before behind a b)
 
 pub begin_is : (fault : MoveFault) (r : MoveRefusal) (before behind items : List MoveRefusal) → items ≡ (r ∷ before) ++ behind → r.fault ≡ fault → FirstIsOf fault items
 begin_is fault r before behind items e same = subst (FirstIsOf fault) (sym e) same
@@ -78,7 +79,7 @@ some_wider (Some a) f h = f a h
 some_wider None f h = tt
 
 -- a refused statement of the text, told where it begins
-pub statement_told : (text : List ℕ) (input output : Forest Resolved) (f : MoveFault) (own : List Lexeme) (at : Option Spot) → IsRefusedStatement f text input output own
-    → IfSome at (λ s. BeginsThere s own) → IsMoveRefusal text input output (record { fault = f; at = at })
-statement_told text input output f own at h begins =
+pub statement_told : (text : List ℕ) (input output : Forest Resolved) (names : PlainConditionNames) (f : MoveFault) (own : List Lexeme) (at : Option Spot) → IsRefusedStatement f text input output own
+    → IfSome at (λ s. BeginsThere s own) → IsMoveRefusal text input output names (record { fault = f; at = at })
+statement_told text input output names f own at h begins =
     (inr h.0, some_wider at (λ s b. (h.0, subst (BeginsThere s) (sym h.1) b)) begins)

@@ -10,6 +10,7 @@ use Rattle.cob_move_loops.specs.Passages.{IsPassage, Passage}
 use Rattle.cob_move_loops.specs.Turns.{words_by_turn}
 use Rattle.cob_move_loops.specs.Words.{IsOther, IsPeriod, NoPeriod}
 use Rattle.cob_move_names.specs.Candidates.{all_entries}
+use Rattle.cob_move_names.specs.Valued.{PlainConditionNames}
 use Rattle.cob_move_statements.specs.declared.fault.MoveFault.{MoveFault}
 use Rattle.cob_move_statements.specs.Statements.{EndsStatement}
 use Rattle.cob_move.specs.Bodies.{IsBodyIn, RunIsRefused}
@@ -66,13 +67,13 @@ abbrev pub IsRefusedThere : MoveFault → List ℕ → Forest Resolved → Fores
 IsRefusedThere f text input output s = (r : IsStatementRefusal f text input output) × BeginsThere s r.own
 
 -- The refusal names a rule that the text breaks, or one of its statements by itself; and the place that it tells, if it tells one, is that of such a statement.
-abbrev pub IsMoveRefusal : List ℕ → Forest Resolved → Forest Resolved → MoveRefusal → Type 0
-IsMoveRefusal text input output r =
-    (IsRefusalOf r.fault text input output ⊎ IsStatementRefusal r.fault text input output) × IfSome r.at (IsRefusedThere r.fault text input output)
+abbrev pub IsMoveRefusal : List ℕ → Forest Resolved → Forest Resolved → PlainConditionNames → MoveRefusal → Type 0
+IsMoveRefusal text input output names r =
+    (IsRefusalOf r.fault text input output names ⊎ IsStatementRefusal r.fault text input output) × IfSome r.at (IsRefusedThere r.fault text input output)
 
 -- Each of them does.
-abbrev pub AreMoveRefusals : List ℕ → Forest Resolved → Forest Resolved → List MoveRefusal → Type 0
-AreMoveRefusals text input output rs = AllByRecursion (IsMoveRefusal text input output) rs
+abbrev pub AreMoveRefusals : List ℕ → Forest Resolved → Forest Resolved → PlainConditionNames → List MoveRefusal → Type 0
+AreMoveRefusals text input output names rs = AllByRecursion (IsMoveRefusal text input output names) rs
 
 -- these words are one of the text's statements, which is refused so by itself
 abbrev pub IsRefusedStatement : MoveFault → List ℕ → Forest Resolved → Forest Resolved → List Lexeme → Type 0
@@ -86,12 +87,12 @@ HasRun text input output run =
 -- refusals of the statements of these words stand behind those before
 abbrev pub AddsOfRun : Forest Resolved → Forest Resolved → List Lexeme → (old new : List MoveRefusal) → Type 0
 AddsOfRun input output run old new =
-    (text : List ℕ) → HasRun text input output run → AreMoveRefusals text input output old → AreMoveRefusals text input output new
+    (text : List ℕ) (names : PlainConditionNames) → HasRun text input output run → AreMoveRefusals text input output names old → AreMoveRefusals text input output names new
 
 -- those of words in which statements stand, of these kinds of words
 abbrev pub AddsOfRuns : Forest Resolved → Forest Resolved → (List Lexeme → Type 0) → (old new : List MoveRefusal) → Type 0
 AddsOfRuns input output Is old new =
-    (text : List ℕ) → ((run : List Lexeme) → Is run → HasRun text input output run) → AreMoveRefusals text input output old → AreMoveRefusals text input output new
+    (text : List ℕ) (names : PlainConditionNames) → ((run : List Lexeme) → Is run → HasRun text input output run) → AreMoveRefusals text input output names old → AreMoveRefusals text input output names new
 
 -- those of words behind a heading
 abbrev pub AddsOfBody : Forest Resolved → Forest Resolved → List Lexeme → (old new : List MoveRefusal) → Type 0

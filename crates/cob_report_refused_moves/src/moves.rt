@@ -12,13 +12,14 @@ ghost use Rattle.cob_move_deeds.specs.Tests.{Test};
 ghost use Rattle.cob_move_loops.specs.Passages.{IsPassage, Passage};
 ghost use Rattle.cob_move_loops.specs.Reading.{all_runs, run_words};
 ghost use Rattle.cob_move_loops.specs.Words.{IsOther};
+ghost use Rattle.cob_move_names.specs.Valued.{PlainConditionNames, plain_names};
 ghost use Rattle.cob_move.specs.Bodies.{IsBodyIn};
 ghost use Rattle.cob_move.specs.Paragraphs.{IsParagraphOf, IsRefusalOf};
 ghost use Rattle.cob_report_refused_moves.specs.Statements.{AddsOfBody, AddsOfRun, AddsOfRuns, AreMoveRefusals, FirstIsOf, IsMoveRefusal, IsRefusedThere};
 
 use crate::statements::{add_run, add_statements, spot_of};
 use cob_layout::Layout;
-use cob_move::Paragraph;
+use cob_move::{ConditionNames, Paragraph};
 use cob_move_loops::{Run, check, is_few, is_shallow, passage_word, write_out};
 use cob_move_statements::{MoveFault, MoveRule, behind_heading};
 use cob_report_refusals::{MoveRefusal, Spot};
@@ -238,8 +239,9 @@ fn statement_refusals(
     output: &Layout,
     words: &[Token],
 ) -> Result<Vec<MoveRefusal>, AllocError>
-    ensures { IfOk result (λ v. (text : List ℕ) → AreParagraphWordsOf text (lexemes words.now)
-        → AreMoveRefusals text input.now output.now v.items) }
+    ensures { IfOk result (λ v. (text : List ℕ) (names : PlainConditionNames)
+        → AreParagraphWordsOf text (lexemes words.now)
+        → AreMoveRefusals text input.now output.now names v.items) }
 {
     let mut out: Vec<MoveRefusal> = Vec::new(alloc);
     add_body(alloc, input, output, body_of(words), &mut out)?;
@@ -265,8 +267,8 @@ fn place_of(first: &MoveFault, found: &[MoveRefusal]) -> Option<usize> {
 
 /// Where the statement stands of a refusal, if it is of this fault.
 fn place_in(first: &MoveFault, refusal: &MoveRefusal) -> Option<Spot>
-    ensures { (text : List ℕ) (input output : Forest Resolved)
-        → IsMoveRefusal text input output refusal.now
+    ensures { (text : List ℕ) (input output : Forest Resolved) (names : PlainConditionNames)
+        → IsMoveRefusal text input output names refusal.now
         → IfSome result (IsRefusedThere first.now text input output) }
 {
     if is_same(first, &refusal.fault) {
@@ -281,11 +283,11 @@ fn parted_at<'a>(
     found: &'a [MoveRefusal],
     number: usize,
 ) -> (Option<Spot>, &'a [MoveRefusal], &'a [MoveRefusal])
-    ensures { (text : List ℕ) (input output : Forest Resolved)
-        → AreMoveRefusals text input output found.now
+    ensures { (text : List ℕ) (input output : Forest Resolved) (names : PlainConditionNames)
+        → AreMoveRefusals text input output names found.now
         → IfSome result.0 (IsRefusedThere first.now text input output)
-        × AreMoveRefusals text input output result.1.now
-        × AreMoveRefusals text input output result.2.now }
+        × AreMoveRefusals text input output names result.1.now
+        × AreMoveRefusals text input output names result.2.now }
 {
     let (before, rest) = found.split_at(number.min(found.len()));
     match rest.split_first() {
@@ -299,11 +301,11 @@ fn parted<'a>(
     first: &MoveFault,
     found: &'a [MoveRefusal],
 ) -> (Option<Spot>, &'a [MoveRefusal], &'a [MoveRefusal])
-    ensures { (text : List ℕ) (input output : Forest Resolved)
-        → AreMoveRefusals text input output found.now
+    ensures { (text : List ℕ) (input output : Forest Resolved) (names : PlainConditionNames)
+        → AreMoveRefusals text input output names found.now
         → IfSome result.0 (IsRefusedThere first.now text input output)
-        × AreMoveRefusals text input output result.1.now
-        × AreMoveRefusals text input output result.2.now }
+        × AreMoveRefusals text input output names result.1.now
+        × AreMoveRefusals text input output names result.2.now }
 {
     match place_of(first, found) {
         Some(number) => parted_at(first, found, number),
@@ -342,10 +344,10 @@ fn behind_first(
     found: &[MoveRefusal],
 ) -> Result<Vec<MoveRefusal>, AllocError>
     ensures begins { IfOk result (λ v. FirstIsOf first v.items) }
-    ensures each { (text : List ℕ) (input output : Forest Resolved)
-        → IsRefusalOf first text input output
-        → AreMoveRefusals text input output found.now
-        → IfOk result (λ v. AreMoveRefusals text input output v.items) }
+    ensures each { (text : List ℕ) (input output : Forest Resolved) (names : PlainConditionNames)
+        → IsRefusalOf first text input output names
+        → AreMoveRefusals text input output names found.now
+        → IfOk result (λ v. AreMoveRefusals text input output names v.items) }
 {
     let (at, before, behind) = parted(&first, found);
     let refusal = MoveRefusal { fault: first, at };
@@ -365,9 +367,10 @@ fn refusals_of_words(
     first: MoveFault,
 ) -> Result<Vec<MoveRefusal>, AllocError>
     ensures begins { IfOk result (λ v. FirstIsOf first v.items) }
-    ensures each { (text : List ℕ) → IsRefusalOf first text input.now output.now
+    ensures each { (text : List ℕ) (names : PlainConditionNames)
+        → IsRefusalOf first text input.now output.now names
         → AreParagraphWordsOf text (lexemes words.now)
-        → IfOk result (λ v. AreMoveRefusals text input.now output.now v.items) }
+        → IfOk result (λ v. AreMoveRefusals text input.now output.now names v.items) }
 {
     let found = statement_refusals(alloc, input, output, words)?;
     behind_first(alloc, first, found.as_slice())
@@ -386,8 +389,9 @@ fn refusals_with(
     first: MoveFault,
 ) -> Result<Vec<MoveRefusal>, AllocError>
     ensures begins { IfOk result (λ v. FirstIsOf first v.items) }
-    ensures each { IsRefusalOf first text.now input.now output.now
-        → IfOk result (λ v. AreMoveRefusals text.now input.now output.now v.items) }
+    ensures each { (names : PlainConditionNames)
+        → IsRefusalOf first text.now input.now output.now names
+        → IfOk result (λ v. AreMoveRefusals text.now input.now output.now names v.items) }
 {
     match words_of(alloc, text)? {
         Some(words) => refusals_of_words(alloc, input, output, words.as_slice(), first),
@@ -405,18 +409,21 @@ pub fn move_refusals(
     alloc: Global,
     input: &Layout,
     output: &Layout,
+    names: ConditionNames<'_>,
     text: &[u8],
 ) -> Result<Vec<MoveRefusal>, AllocError>
     // Each names a rule that is broken, and no place but that of a statement which breaks it.
-    ensures each { IfOk result (λ v. AreMoveRefusals text.now input.now output.now v.items) }
+    ensures each { IfOk result
+        (λ v. AreMoveRefusals text.now input.now output.now (plain_names names.entry) v.items) }
     // Of a text that is a paragraph nothing is told.
-    ensures none { (d : Deeds Test) → IsParagraphOf text.now input.now output.now d
+    ensures none { (d : Deeds Test)
+        → IsParagraphOf text.now input.now output.now (plain_names names.entry) d
         → IfOk result (λ v. v.items ≡ []) }
     // A text of which nothing is told is a paragraph.
     ensures some { IfOk result (λ v. v.items ≡ []
-        → (d : Deeds Test) × IsParagraphOf text.now input.now output.now d) }
+        → (d : Deeds Test) × IsParagraphOf text.now input.now output.now (plain_names names.entry) d) }
 {
-    let Err(fault) = Paragraph::read(alloc, input, output, text) else {
+    let Err(fault) = Paragraph::read(alloc, input, output, names, text) else {
         return Ok(Vec::new(alloc));
     };
     if let MoveRule::Memory = fault.rule {

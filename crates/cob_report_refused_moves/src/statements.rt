@@ -4,6 +4,7 @@ ghost use Rattle.std.specs.Prelude.{◌≡◌, ◌++◌, ◌∷◌, ℕ, List, [
 ghost use Rattle.cob_source.specs.Tokens.{lexemes};
 ghost use Rattle.cob_move_loops.specs.Reading.{run_words};
 ghost use Rattle.cob_move_names.specs.Candidates.{all_entries};
+ghost use Rattle.cob_move_names.specs.Valued.{PlainConditionNames};
 ghost use Rattle.cob_move_statements.specs.Written.{written_statements};
 ghost use Rattle.cob_move.specs.Bodies.{RunIsRefused};
 ghost use Rattle.cob_move.specs.Refusals.{AreBroken};
@@ -121,11 +122,11 @@ fn add_statement(
     own: &[Token],
     out: &mut Vec<MoveRefusal>,
 ) -> Result<(), AllocError>
-    ensures { OnOk result ((text : List ℕ)
+    ensures { OnOk result ((text : List ℕ) (names : PlainConditionNames)
         → ((f : MoveFault) → RunIsRefused f (all_entries input.now output.now) input.now output.now
         (lexemes own.now) → IsRefusedStatement f text input.now output.now (lexemes own.now))
-        → AreMoveRefusals text input.now output.now out.old.items
-        → AreMoveRefusals text input.now output.now out.new.items) }
+        → AreMoveRefusals text input.now output.now names out.old.items
+        → AreMoveRefusals text input.now output.now names out.new.items) }
 {
     let at = spot_of(own);
     let found = fault_of_words(alloc, input, output, own)?;
@@ -244,11 +245,11 @@ fn add_doubtful(
     clear: usize,
     out: &mut Vec<MoveRefusal>,
 ) -> Result<(), AllocError>
-    ensures { OnOk result ((text : List ℕ)
+    ensures { OnOk result ((text : List ℕ) (names : PlainConditionNames)
         → ((f : MoveFault) → RunIsRefused f (all_entries input.now output.now) input.now output.now
         (lexemes own.now) → IsRefusedStatement f text input.now output.now (lexemes own.now))
-        → AreMoveRefusals text input.now output.now out.old.items
-        → AreMoveRefusals text input.now output.now out.new.items) }
+        → AreMoveRefusals text input.now output.now names out.old.items
+        → AreMoveRefusals text input.now output.now names out.new.items) }
 {
     if clear > 0 {
         return Ok(());

@@ -1,17 +1,18 @@
 //! What conditions mean between two records, and which rules they break.
 //!
 //! Fields: the entries of the input record, those of the output record, and the words of a condition, with bars between the lines of each. Where the words
-//! mean a condition, it is printed with what abbreviations leave out. An entry is the side of its record and its number there, with its subscripts; `{..}` are
+//! mean a condition, it is printed with what abbreviations leave out, and the values of a condition-name in its place. An entry is the side of its record and its number there, with its subscripts; `{..}` are
 //! the brackets that AND and OR make, and `not (..)` is what doesn't hold.
 
 ghost use Rattle.cob_move_tests.specs.Entries.{AllMayBeNamed};
 
 use crate::operands::push_value;
 use cob_copybook::Role;
+use cob_copybook_conditions::{ConditionName, condition_names};
 use cob_layout::Layout;
 use cob_move_condition::{Class, Comparand, Condition};
 use cob_move_data::Side;
-use cob_move_names::Names;
+use cob_move_names::{ConditionNames, Names};
 use cob_move_statements::MoveRule;
 use cob_move_tests::{Entries, NamedEntry, condition_of};
 use cob_source::{Token, paragraph_tokens};
@@ -137,12 +138,13 @@ fn push_between(
     alloc: Global,
     input: &Layout,
     output: &Layout,
+    names: ConditionNames<'_>,
     words: &[Token],
     out: &mut String,
 ) -> Result<(), RowFault> {
-    let names = Names::of(alloc, input, output)?;
+    let nameable = Names::with_conditions(alloc, input, output, names)?;
     let entries = Entries {
-        names: &names,
+        names: &nameable,
         input,
         output,
     };
@@ -154,11 +156,21 @@ fn push_text_of(
     alloc: Global,
     input: &Layout,
     output: &Layout,
+    names: ConditionNames<'_>,
     text: &[u8],
     out: &mut String,
 ) -> Result<(), RowFault> {
     match paragraph_tokens(alloc, text) {
-        Ok(words) => push_between(alloc, input, output, words.as_slice(), out),
+        Ok(words) => push_between(alloc, input, output, names, words.as_slice(), out),
+        Err(_) => Err(RowFault::BadRow),
+    }
+}
+
+/// The condition-names of the copybook in a field.
+fn names_at(alloc: Global, row: &Row, field: usize) -> Result<Vec<ConditionName>, RowFault> {
+    let text = row.lines(alloc, field)?;
+    match condition_names(alloc, text.as_slice()) {
+        Ok(names) => Ok(names),
         Err(_) => Err(RowFault::BadRow),
     }
 }
@@ -171,8 +183,14 @@ fn push_words_of(
     row: &Row,
     out: &mut String,
 ) -> Result<(), RowFault> {
+    let in_names = names_at(alloc, row, 0)?;
+    let out_names = names_at(alloc, row, 1)?;
+    let names = ConditionNames {
+        input: in_names.as_slice(),
+        output: out_names.as_slice(),
+    };
     let text = row.lines(alloc, 2)?;
-    push_text_of(alloc, input, output, text.as_slice(), out)
+    push_text_of(alloc, input, output, names, text.as_slice(), out)
 }
 
 /// The same between this input record and the output record of the row.

@@ -35,6 +35,7 @@ impl Family for ItemRows {
             "read" => storage::push_read(alloc, row, out),
             "stored" => storage::push_stored(alloc, row, out),
             "read_whole" => storage::push_whole(alloc, row, out),
+            "read_any_zones" => storage::push_any_zones(alloc, row, out),
             "read_digits" => storage::push_digits_read(alloc, row, out),
             "items" => items::push_item(alloc, row, out),
             "edited" => editing::push_edited(alloc, row, false, out),

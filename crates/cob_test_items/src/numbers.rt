@@ -50,36 +50,50 @@ pub(crate) fn push_number(out: &mut String, number: &Number) -> Result<(), Alloc
     push_text(out, text.as_slice())
 }
 
-/// Writes the sign, the digits and the scale of a number.
-fn push_parts(out: &mut String, number: &Number) -> Result<(), AllocError> {
-    out.push_str(if number.negative() { "minus" } else { "plus" })?;
-    out.push_str(" \"")?;
-    for digit in number.digits().as_slice() {
+/// Writes digits.
+pub(crate) fn push_plain(out: &mut String, digits: &Digits) -> Result<(), AllocError> {
+    for digit in digits.as_slice() {
         write!(out, "{digit}")?;
     }
-    write!(out, "\" scale {}", number.scale())
+    Ok(())
 }
 
-/// The number that a text is, if it is one.
-fn read(text: &[u8]) -> Option<Number> {
-    Number::of_text(text)
+/// Writes the sign, the digits and the scale of a number.
+fn push_parts(out: &mut String, number: &Number) -> Result<(), AllocError> {
+    let sign = if number.negative() { "minus" } else { "plus" };
+    write!(out, "{sign} \"")?;
+    push_plain(out, number.digits())?;
+    write!(out, "\" scale {}", number.scale())
 }
 
 /// The number of a field.
 pub(crate) fn number_of_text(alloc: Global, row: &Row, place: usize) -> Result<Number, RowFault> {
     let text = row.text(alloc, place)?;
-    read(text.as_slice()).ok_or(RowFault::BadRow)
+    match Number::of_text(text.as_slice()) {
+        Some(number) => Ok(number),
+        None => Err(RowFault::BadRow),
+    }
 }
 
 /// The parts of the number that a literal is, and its text.
 pub(crate) fn push_literal(alloc: Global, row: &Row, out: &mut String) -> Result<(), RowFault> {
     let text = row.quoted_text(alloc, 0)?;
-    let Some(number) = read(text.as_slice()) else {
-        return Ok(out.push_str("no literal")?);
-    };
-    push_parts(out, &number)?;
+    Ok(push_literal_of(out, text.as_slice())?)
+}
+
+/// The parts of the number that a text is, and its text.
+fn push_literal_of(out: &mut String, text: &[u8]) -> Result<(), AllocError> {
+    match Number::of_text(text) {
+        Some(number) => push_whole(out, &number),
+        None => out.push_str("no literal"),
+    }
+}
+
+/// Writes the parts of a number, and its text.
+fn push_whole(out: &mut String, number: &Number) -> Result<(), AllocError> {
+    push_parts(out, number)?;
     out.push_str(", printed ")?;
-    Ok(push_number(out, &number)?)
+    push_number(out, number)
 }
 
 /// The text of a number.
@@ -97,9 +111,10 @@ fn aligned(number: &Number, digits: u8, scale: i8, signed: bool) -> Result<Numbe
 
 /// The parts of a number that is aligned to a receiver.
 pub(crate) fn push_aligned(row: &Row, out: &mut String) -> Result<(), RowFault> {
-    let number = number_of(row)?;
+    let digits = row.number(3)?;
+    let scale = row.number(4)?;
     let signed = is_first(row, 5, "signed", "unsigned")?;
-    let aligned = aligned(&number, row.number(3)?, row.number(4)?, signed)?;
+    let aligned = aligned(&number_of(row)?, digits, scale, signed)?;
     Ok(push_parts(out, &aligned)?)
 }
 
@@ -117,7 +132,11 @@ fn is_same(digits: &Digits, other: &Digits) -> bool {
 pub(crate) fn push_compared(row: &Row, out: &mut String) -> Result<(), RowFault> {
     let digits = digits_at(row, 0)?;
     let other = digits_at(row, 1)?;
-    out.push_str(if digits.is_zero() { "zero" } else { "not zero" })?;
-    let is_same = is_same(&digits, &other);
-    Ok(out.push_str(if is_same { ", the same" } else { ", others" })?)
+    let first = if digits.is_zero() { "zero" } else { "not zero" };
+    let second = if is_same(&digits, &other) {
+        "the same"
+    } else {
+        "others"
+    };
+    Ok(write!(out, "{first}, {second}")?)
 }

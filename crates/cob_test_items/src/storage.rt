@@ -2,7 +2,7 @@
 
 ghost use Rattle.std.specs.Prelude.{◌≡◌, length, IsTrue, IsSomeAnd};
 
-use crate::numbers::{number_of_text, push_number};
+use crate::numbers::{number_of_text, push_number, push_plain};
 use crate::pictures::quoted_picture;
 use cob_codec::{Binary, Packed, Separate, Shape, Storage, Zoned, read_digits};
 use cob_decimal::{Digits, Number};
@@ -56,8 +56,8 @@ pub(crate) fn push_shape(alloc: Global, row: &Row, out: &mut String) -> Result<(
     let shape = shape_by(&picture, leads(row.field(1)?)?)?;
     let sign = if shape.signed { "signed" } else { "unsigned" };
     let place = if shape.leading { "leading" } else { "trailing" };
-    write!(out, "digits {}, scale {}, ", shape.digits, shape.scale)?;
-    Ok(write!(out, "{sign}, {place}")?)
+    let Shape { digits, scale, .. } = shape;
+    Ok(write!(out, "digits {digits}, scale {scale}, {sign}, {place}")?)
 }
 
 /// Writes a number, or that there is none.
@@ -123,6 +123,13 @@ fn stored_and_read<S: Storage>(shape: &Shape, number: &Number, bytes: &mut [u8])
     S::read(shape, bytes)
 }
 
+/// Writes bytes, and the number that they represent.
+fn push_both(out: &mut String, bytes: &[u8], number: &Option<Number>) -> Result<(), AllocError> {
+    push_digits(out, bytes)?;
+    out.push_str(", read back as ")?;
+    push_found(out, number)
+}
+
 /// Writes the bytes that are stored for a number, and the number that they represent.
 fn push_form<S: Storage>(
     alloc: Global,
@@ -135,9 +142,7 @@ fn push_form<S: Storage>(
     let aligned = number.align(shape.digits, shape.scale, shape.signed);
     let mut bytes = vec![in alloc; 0x55u8; usize::from(S::length(shape))]?;
     let read = stored_and_read::<S>(shape, &aligned, &mut bytes);
-    push_digits(out, bytes.as_slice())?;
-    out.push_str(", read back as ")?;
-    Ok(push_found(out, &read)?)
+    Ok(push_both(out, bytes.as_slice(), &read)?)
 }
 
 /// Writes the bytes that an item of this kind has for a number, and the number that they represent.
@@ -185,12 +190,31 @@ pub(crate) fn push_whole(alloc: Global, row: &Row, out: &mut String) -> Result<(
     Ok(push_number(out, &number)?)
 }
 
+/// The number of an item's bytes by any zones.
+fn any_zones_number(kind: &str, shape: &Shape, bytes: &[u8]) -> Result<Option<Number>, RowFault> {
+    let count = usize::from(shape.digits);
+    match kind {
+        "zoned" if bytes.len() == count => Ok(Zoned::read_any_zones(shape, bytes)),
+        "separate" if shape.signed && bytes.len() == count + 1 => {
+            Ok(Separate::read_any_zones(shape, bytes))
+        }
+        "packed" if bytes.len() == count / 2 + 1 => Ok(Packed::read_any_zones(shape, bytes)),
+        _ => Err(RowFault::BadRow),
+    }
+}
+
+/// The number of the bytes of a row's item by any zones.
+pub(crate) fn push_any_zones(alloc: Global, row: &Row, out: &mut String) -> Result<(), RowFault> {
+    let shape = shape_of(row)?;
+    let bytes = row.bytes(alloc, 4)?;
+    let number = any_zones_number(row.field(0)?, &shape, bytes.as_slice())?;
+    Ok(push_found(out, &number)?)
+}
+
 /// Writes digits between quotes.
 fn push_quoted(out: &mut String, digits: &Digits) -> Result<(), AllocError> {
     out.push('"')?;
-    for digit in digits.as_slice() {
-        write!(out, "{digit}")?;
-    }
+    push_plain(out, digits)?;
     out.push('"')
 }
 

@@ -1,12 +1,21 @@
 //! What came of moves, with a sum of what the receivers hold.
 
+use crate::draws::Draws;
+
 /// What came of the moves between two kinds of items.
-#[derive(Drop)]
+#[derive(Clone, Copy)]
 pub struct Tally {
-    moved: u32,
-    no_number: u32,
-    no_step: u32,
-    sum: u64,
+    pub moved: u32,
+    pub no_number: u32,
+    pub no_step: u32,
+    pub sum: u64,
+}
+
+/// Moves that are tried: what is drawn for them, and what came of them.
+#[derive(Drop)]
+pub struct Trials {
+    pub draws: Draws,
+    pub tally: Tally,
 }
 
 /// Adds a byte to a sum.
@@ -16,7 +25,7 @@ fn summed(sum: u64, byte: u8) -> u64 {
 
 impl Tally {
     /// Of no moves.
-    pub fn new() -> Tally {
+    fn new() -> Tally {
         Tally {
             moved: 0,
             no_number: 0,
@@ -42,9 +51,21 @@ impl Tally {
     pub fn count_none(&mut self) {
         self.no_step = self.no_step.wrapping_add(1);
     }
+}
 
-    /// The moves that were made, those whose sender represented no number, those without a step, and the sum.
-    pub fn parts(&self) -> (u32, u32, u32, u64) {
-        (self.moved, self.no_number, self.no_step, self.sum)
+impl Trials {
+    /// Draws from this beginning, and no moves yet.
+    pub fn new(state: u64) -> Trials {
+        Trials {
+            draws: Draws::new(state),
+            tally: Tally::new(),
+        }
+    }
+
+    /// What came of the moves, and begins a new tally.
+    pub fn ended(&mut self) -> Tally {
+        let tally = self.tally;
+        self.tally = Tally::new();
+        tally
     }
 }

@@ -10,7 +10,7 @@ ghost use Rattle.cob_move.specs.Paragraphs.{IsReadyFor};
 
 use cob_copybook::Role;
 use cob_layout::Layout;
-use cob_move::{MoveFault, MoveRule, Paragraph};
+use cob_move::{ConditionNames, MoveFault, MoveRule, Paragraph};
 use cob_test_layouts::layout_at;
 use cob_test_rows::{Row, RowFault};
 use std::alloc::{AllocError, Global};
@@ -34,7 +34,11 @@ pub(crate) fn read_paragraph(
 ) -> Result<Paragraph, MoveFault>
     ensures { IfOk result (λ p. IsReadyFor (both input.now output.now) p) }
 {
-    Paragraph::read(alloc, input, output, text)
+    let names = ConditionNames {
+        input: &[],
+        output: &[],
+    };
+    Paragraph::read(alloc, input, output, names, text)
 }
 
 /// Writes how many moves a paragraph has, and how many steps where these are asked for.

@@ -3,7 +3,7 @@
 use crate::trials::padded;
 use cob_copybook::{Book, Role};
 use cob_layout::Layout;
-use cob_move::{MoveFault, MoveRule, Paragraph};
+use cob_move::{ConditionNames, MoveFault, MoveRule, Paragraph};
 use cob_source::SourceRule;
 use cob_test_rows::lines_of;
 use std::alloc::{AllocError, Global};
@@ -22,7 +22,11 @@ fn fault_between(
     output: &Layout,
     moves: &[u8],
 ) -> Option<MoveFault> {
-    match Paragraph::read(alloc, input, output, moves) {
+    let names = ConditionNames {
+        input: &[],
+        output: &[],
+    };
+    match Paragraph::read(alloc, input, output, names, moves) {
         Ok(_) => None,
         Err(fault) => Some(fault),
     }

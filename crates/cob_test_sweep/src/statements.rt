@@ -2,8 +2,9 @@
 
 use crate::draw::Draw;
 use crate::entries::{Entry, Times, with_table};
-use crate::style::{Record, Style, push_number};
+use crate::style::{EntryName, Record, Style};
 use std::alloc::AllocError;
+use std::fmt::Write;
 
 /// The numbers that the counter of a loop takes: the first, how much it grows, and the one that it does not pass.
 #[derive(Clone, Copy)]
@@ -46,14 +47,12 @@ fn push_subscripts(
     let mut before = " (";
     for times in tables {
         if let Some(subscript) = subscript(draw, *times) {
-            text.push_str(before)?;
-            push_number(text, subscript)?;
+            write!(text, "{before}{subscript}")?;
             before = " ";
         }
     }
     if counter != "" {
-        text.push_str(before)?;
-        text.push_str(counter)?;
+        write!(text, "{before}{counter}")?;
         before = " ";
     }
     if before == " " {
@@ -63,50 +62,49 @@ fn push_subscripts(
     }
 }
 
-/// Writes the element of an entry of a record.
+/// Writes a word and the element of an entry of a record.
 fn push_reference(
     text: &mut String,
     draw: &mut Draw,
-    style: &Style,
-    number: u64,
+    word: &str,
+    name: EntryName,
     record: Record,
     tables: &[Times],
     counter: &str,
 ) -> Result<(), AllocError> {
-    text.push_str("\n               ")?;
-    style.push_name(text, number)?;
-    text.push_str(" OF ")?;
-    text.push_str(record.name)?;
+    let record = record.name;
+    write!(text, "{word}\n               {name} OF {record}")?;
     push_subscripts(text, draw, tables, counter)
 }
 
-/// Writes the words that move an entry to the one of its name, where the counter of a loop is the last subscript of both.
+/// Writes the words that move an entry, which stands in these tables and occurs so often, to the one of its name, where the counter of a loop is
+/// the last subscript of both.
 fn push_words(
     text: &mut String,
     draw: &mut Draw,
     style: &Style,
-    entry: &Entry<'_>,
+    number: u64,
+    tables: &[Times],
+    times: Times,
     counter: &str,
 ) -> Result<(), AllocError> {
-    let number = entry.number;
-    text.push_str("           MOVE")?;
+    let name = style.name(number);
     push_reference(
         text,
         draw,
-        style,
-        number,
+        "           MOVE",
+        name,
         style.input,
-        &entry.tables,
+        tables,
         counter,
     )?;
-    text.push_str("\n               TO")?;
     push_reference(
         text,
         draw,
-        style,
-        number,
+        "\n               TO",
+        name,
         style.output,
-        &[entry.times],
+        &[times],
         counter,
     )
 }
@@ -119,17 +117,13 @@ fn push_loop(
     entry: &Entry<'_>,
     turns: Turns,
 ) -> Result<(), AllocError> {
-    text.push_str("           PERFORM VARYING I FROM ")?;
-    push_number(text, turns.first)?;
-    text.push_str(" BY ")?;
-    push_number(text, turns.step)?;
-    text.push_str(" UNTIL I > ")?;
-    push_number(text, turns.bound)?;
-    text.push('\n')?;
-    let mut element = *entry;
-    element.tables = with_table(entry.tables, entry.depth, Times::Once);
-    element.times = Times::Once;
-    push_words(text, draw, style, &element, "I")?;
+    let Turns { first, step, bound } = turns;
+    write!(
+        text,
+        "           PERFORM VARYING I FROM {first} BY {step} UNTIL I > {bound}\n"
+    )?;
+    let tables = with_table(entry.tables, entry.depth, Times::Once);
+    push_words(text, draw, style, entry.number, &tables, Times::Once, "I")?;
     text.push_str("\n           END-PERFORM.\n")
 }
 
@@ -143,7 +137,15 @@ fn push_move(
     if let Some(turns) = draw_turns(draw, entry.times) {
         return push_loop(text, draw, style, entry, turns);
     }
-    push_words(text, draw, style, entry, "")?;
+    push_words(
+        text,
+        draw,
+        style,
+        entry.number,
+        &entry.tables,
+        entry.times,
+        "",
+    )?;
     text.push_str(".\n")
 }
 
@@ -161,9 +163,6 @@ pub(crate) fn push_statements(
     if draw.below(3) != 0 {
         return Ok(());
     }
-    text.push_str("           MOVE CORRESPONDING ")?;
-    text.push_str(style.input.name)?;
-    text.push_str(" TO ")?;
-    text.push_str(style.output.name)?;
-    text.push_str(".\n")
+    let (input, output) = (style.input.name, style.output.name);
+    write!(text, "           MOVE CORRESPONDING {input} TO {output}.\n")
 }

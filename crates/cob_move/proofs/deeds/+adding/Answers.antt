@@ -26,7 +26,7 @@ use Rattle.cob_move_loops.proofs.PassageLemmas.{none_left, shorter, some_left}
 use Rattle.cob_move_loops.proofs.WritingLemmas.{counters_more}
 use Rattle.cob_move.specs.declared.made.BranchFlows.{BranchFlows}
 use Rattle.cob_move.specs.DeedsRead.{AddsBranch, AddsBranches, AddsDeeds, AddsFront, AddsMoved, AddsTurns, BranchesRefused, FrontHasBounds, FrontRefused, HasGrown, HaveBounds, IsFrontRead, IsMade, IsWaiting, LeavesFront, LeftOfBranches, LoopRefused, MadeLists, MovedRefused, ReadsApart, ReadsTurns, TurnRefused, closed, flow_lists, in_its_turn, linked_branches, linked_turns, made_lists, open_statements, TakenBranch, taken_branch, taken_branches, TestNotRead, with_asked, with_one_more, without_flows}
-use Rattle.cob_move_tests.specs.Entries.{records_of}
+use Rattle.cob_move_tests.specs.Entries.{records_of, valued_in}
 use Rattle.cob_move.proofs.AskedLemmas.{against_front, or_tested_front, waiting_front, waiting_means}
 use Rattle.cob_move.proofs.ChoiceLemmas.{HasReadChoice, asked_grown, asked_made, apart_kept, begun, begun_grown, begun_made, branch_kept, choice_adds, choice_has_grown, choice_is_made, choice_not_read, choice_same, closed_asked, closed_branches, count_not_read, in_front_by, leaves_asked, left_begin, left_end, left_other, left_other_refused, left_statements_refused, left_taken, left_test_refused, left_waits, subject_not_read}
 use Rattle.cob_move.proofs.MadeLemmas.{forgotten_again, grown_both, grown_none, leaves_more, leaves_same, leaves_unbroken}
@@ -685,7 +685,7 @@ add_branches-loop-test-preserved-then-is_empty t c =
     let front = in_front_by c.args.kind (Branched (written_test c.in-Some.test) body) (Tested ws) body rest more (ap (λ (x : BranchTest). Branched (written_test x) body) c.in-Tested.is) c.in-Some.ensures.found c.in-Some.ensures.only in
     let less = shorter (standing.Branches c.args.kind) (Branched (written_test c.in-Some.test) (lexemes c.in-Some.body.now)) rest more c.in-Some.ensures.found in
     let held : against (sender_named r before.asked) c.args.subject ≡ a = sym (against_front r begin.asked before.asked c.args.subject c.loop-test.invariant.grown.asked c.requires.there) in
-    let is = subst (λ (x : Against). IsBranchTestOf r ns x ws (condition_of (sender_named r asked) c.in_ok-own.own)) held c.in_ok-own.ensures.found in
+    let is = subst (λ (x : Against). IsBranchTestOf r (valued_in c.args.entries.now) ns x ws (condition_of (sender_named r asked) c.in_ok-own.own)) held c.in_ok-own.ensures.found in
     let means = λ (waits : Option Meant) (w : IsWaiting r before.asked c.loop-test.waiting waits).
     waiting_means r asked c.loop-test.waiting waits c.in_ok-own.own c.in_ok-test.test (condition_of (sender_named r asked) c.in_ok-own.own) (waiting_front r before.asked asked c.loop-test.waiting waits (others, grows) w) refl
     (c.in_ok-test.ensures.means (sender_named r asked)) in
@@ -724,7 +724,7 @@ add_branches-loop-test-preserved t c =
     let front = in_front_by c.args.kind (Branched (written_test c.in-Some.test) body) (Tested ws) body rest more (ap (λ (x : BranchTest). Branched (written_test x) body) c.in-Tested.is) c.in-Some.ensures.found c.in-Some.ensures.only in
     let less = shorter (standing.Branches c.args.kind) (Branched (written_test c.in-Some.test) (lexemes c.in-Some.body.now)) rest more c.in-Some.ensures.found in
     let held : against (sender_named r before.asked) c.args.subject ≡ a = sym (against_front r begin.asked before.asked c.args.subject c.loop-test.invariant.grown.asked c.requires.there) in
-    let is = subst (λ (x : Against). IsBranchTestOf r ns x ws (condition_of (sender_named r asked) c.in_ok-own.own)) held c.in_ok-own.ensures.found in
+    let is = subst (λ (x : Against). IsBranchTestOf r (valued_in c.args.entries.now) ns x ws (condition_of (sender_named r asked) c.in_ok-own.own)) held c.in_ok-own.ensures.found in
     let means = λ (waits : Option Meant) (w : IsWaiting r before.asked c.loop-test.waiting waits).
     waiting_means r asked c.loop-test.waiting waits c.in_ok-own.own c.in_ok-test.test (condition_of (sender_named r asked) c.in_ok-own.own) (waiting_front r before.asked asked c.loop-test.waiting waits (others, grows) w) refl
     (c.in_ok-test.ensures.means (sender_named r asked)) in
@@ -765,7 +765,7 @@ add_branches-add_branch-requires t c =
     let front = in_front_by c.args.kind (Branched (written_test c.in-Some.test) body) (Tested ws) body rest more (ap (λ (x : BranchTest). Branched (written_test x) body) c.in-Tested.is) c.in-Some.ensures.found c.in-Some.ensures.only in
     let less = shorter (standing.Branches c.args.kind) (Branched (written_test c.in-Some.test) (lexemes c.in-Some.body.now)) rest more c.in-Some.ensures.found in
     let held : against (sender_named r before.asked) c.args.subject ≡ a = sym (against_front r begin.asked before.asked c.args.subject c.loop-test.invariant.grown.asked c.requires.there) in
-    let is = subst (λ (x : Against). IsBranchTestOf r ns x ws (condition_of (sender_named r asked) c.in_ok-own.own)) held c.in_ok-own.ensures.found in
+    let is = subst (λ (x : Against). IsBranchTestOf r (valued_in c.args.entries.now) ns x ws (condition_of (sender_named r asked) c.in_ok-own.own)) held c.in_ok-own.ensures.found in
     let means = λ (waits : Option Meant) (w : IsWaiting r before.asked c.loop-test.waiting waits).
     waiting_means r asked c.loop-test.waiting waits c.in_ok-own.own c.in_ok-test.test (condition_of (sender_named r asked) c.in_ok-own.own) (waiting_front r before.asked asked c.loop-test.waiting waits (others, grows) w) refl
     (c.in_ok-test.ensures.means (sender_named r asked)) in
@@ -822,7 +822,7 @@ add_branches-returns-in_err-add_branch-clause-fault t c =
     let front = in_front_by c.args.kind (Branched (written_test c.in-Some.test) body) (Tested ws) body rest more (ap (λ (x : BranchTest). Branched (written_test x) body) c.in-Tested.is) c.in-Some.ensures.found c.in-Some.ensures.only in
     let less = shorter (standing.Branches c.args.kind) (Branched (written_test c.in-Some.test) (lexemes c.in-Some.body.now)) rest more c.in-Some.ensures.found in
     let held : against (sender_named r before.asked) c.args.subject ≡ a = sym (against_front r begin.asked before.asked c.args.subject c.loop-test.invariant.grown.asked c.requires.there) in
-    let is = subst (λ (x : Against). IsBranchTestOf r ns x ws (condition_of (sender_named r asked) c.in_ok-own.own)) held c.in_ok-own.ensures.found in
+    let is = subst (λ (x : Against). IsBranchTestOf r (valued_in c.args.entries.now) ns x ws (condition_of (sender_named r asked) c.in_ok-own.own)) held c.in_ok-own.ensures.found in
     let means = λ (waits : Option Meant) (w : IsWaiting r before.asked c.loop-test.waiting waits).
     waiting_means r asked c.loop-test.waiting waits c.in_ok-own.own c.in_ok-test.test (condition_of (sender_named r asked) c.in_ok-own.own) (waiting_front r before.asked asked c.loop-test.waiting waits (others, grows) w) refl
     (c.in_ok-test.ensures.means (sender_named r asked)) in

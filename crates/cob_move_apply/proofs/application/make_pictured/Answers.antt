@@ -39,8 +39,8 @@ make_part-requires-clause-room c =
     part_room c.args.layouts.now.reading (records c.args.layouts.now) c.args.given.now c.as_slice-bases.result.now c.args.part.now m
     (subst (λ (bs : List Basis). IsMoveOfPart c.args.layouts.now.reading (records c.args.layouts.now) c.args.given.now bs c.args.part.now m) (sym c.as_slice-bases.ensures.value) part.0)
 
-pub returns-in-Whole-clause-moved : goal.returns-in-Whole-clause-moved
-returns-in-Whole-clause-moved c = λ m part.
+pub returns-in_default-clause-moved : goal.returns-in_default-clause-moved
+returns-in_default-clause-moved c = λ m part.
     c.make_part.ensures.moved m (subst (λ (bs : List Basis). IsMoveOfPart c.args.layouts.now.reading (records c.args.layouts.now) c.args.given.now bs c.args.part.now m) (sym c.as_slice-bases.ensures.value) part.0)
 
 pub returns-in-Pictured-clause-spends : goal.returns-in-Pictured-clause-spends
@@ -48,6 +48,6 @@ returns-in-Pictured-clause-spends c = λ m part.
     part_spends c.args.layouts.now.reading (records c.args.layouts.now) c.args.given.now c.args.plan.now.bases.items c.args.plan.now.pictured c.args.one c.args.part.now m c.args.input.now c.args.output.now
     c.run_pictured.result c.run_pictured.new.output _ _ c.in-Pictured.is c.run_pictured.ensures.made c.run_pictured.ensures.spends part
 
-pub returns-in-Whole-clause-spends : goal.returns-in-Whole-clause-spends
-returns-in-Whole-clause-spends c = λ m part.
+pub returns-in_default-clause-spends : goal.returns-in_default-clause-spends
+returns-in_default-clause-spends c = λ m part.
     c.make_part.ensures.spends m (subst (λ (bs : List Basis). IsMoveOfPart c.args.layouts.now.reading (records c.args.layouts.now) c.args.given.now bs c.args.part.now m) (sym c.as_slice-bases.ensures.value) part.0)

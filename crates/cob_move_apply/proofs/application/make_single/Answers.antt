@@ -25,10 +25,10 @@ pub returns-clause-applied : goal.returns-clause-applied
 returns-clause-applied c = λ own is.
     let p : PreparedMove = record { places = c.args.places.now; step = c.args.step } in
     made_prepared In c.args.layouts.now.reading (records c.args.layouts.now) c.args.plan.now.prepared p own c.args.input.now c.args.output.now (ending c.make_prepared.result c.make_prepared.new.output)
-    c.requires.input c.requires.output c.make_prepared.ensures.made is
+    c.requires.keeps c.requires.input c.requires.output c.make_prepared.ensures.made is
 
 pub returns-clause-spends : goal.returns-clause-spends
 returns-clause-spends c = λ own is.
     let p : PreparedMove = record { places = c.args.places.now; step = c.args.step } in
     prepared_spends In c.args.layouts.now.reading (records c.args.layouts.now) c.args.plan.now.prepared p own c.args.input.now c.args.output.now c.make_prepared.result c.make_prepared.new.output _ _
-    c.make_prepared.ensures.made c.make_prepared.ensures.spends is
+    c.requires.keeps c.make_prepared.ensures.made c.make_prepared.ensures.spends is

@@ -28,7 +28,7 @@ returns-in-Characters-clause-moved c = λ yes.
     let to = (operand_in r.output one.receiver).kind in
     let carries = carries_as c.args.plan.now.prepared c.args.plan.now.pictured from to one.step (Characters c.in-Characters.right) c.in-Characters.is c.requires.ready.carries in
     made_characters In r c.args.layouts.now.reading c.args.plan.now.prepared one c.in-Characters.right c.args.places c.args.input.now c.args.output.now
-    (done c.make_characters.new.output) c.requires.stand carries c.make_characters.ensures.made
+    (done c.make_characters.new.output) c.requires.keeps c.requires.stand carries c.make_characters.ensures.made
 
 pub returns-in-Characters-clause-spends : goal.returns-in-Characters-clause-spends
 returns-in-Characters-clause-spends c = λ yes before spent.
@@ -38,7 +38,7 @@ returns-in-Characters-clause-spends c = λ yes before spent.
     let to = (operand_in r.output one.receiver).kind in
     let carries = carries_as c.args.plan.now.prepared c.args.plan.now.pictured from to one.step (Characters c.in-Characters.right) c.in-Characters.is c.requires.ready.carries in
     characters_spend {A = ℕ} In r c.args.layouts.now.reading c.args.plan.now.prepared one c.in-Characters.right c.args.places c.args.input.now c.args.output.now
-    (Ok 0) c.make_characters.new.output before _ _ c.requires.stand carries c.make_characters.ensures.made spent c.make_characters.ensures.spends
+    (Ok 0) c.make_characters.new.output before _ _ c.requires.keeps c.requires.stand carries c.make_characters.ensures.made spent c.make_characters.ensures.spends
 
 pub returns-in-Ok-clause-moved : goal.returns-in-Ok-clause-moved
 returns-in-Ok-clause-moved c = λ yes.
@@ -48,7 +48,7 @@ returns-in-Ok-clause-moved c = λ yes.
     let to = (operand_in r.output one.receiver).kind in
     let carries = carries_as c.args.plan.now.prepared c.args.plan.now.pictured from to one.step (Always c.in-Always.step) c.in-Always.is c.requires.ready.carries in
     made_always In r c.args.layouts.now.reading c.args.plan.now.prepared one c.in-Always.step c.args.places c.args.input.now c.args.output.now
-    (done c.make_prepared.new.output) c.requires.stand carries c.in-Ok.ensures.made
+    (done c.make_prepared.new.output) c.requires.keeps c.requires.stand carries c.in-Ok.ensures.made
 
 pub returns-in-Ok-clause-spends : goal.returns-in-Ok-clause-spends
 returns-in-Ok-clause-spends c = λ yes before spent.
@@ -58,7 +58,7 @@ returns-in-Ok-clause-spends c = λ yes before spent.
     let to = (operand_in r.output one.receiver).kind in
     let carries = carries_as c.args.plan.now.prepared c.args.plan.now.pictured from to one.step (Always c.in-Always.step) c.in-Always.is c.requires.ready.carries in
     always_spends {A = ℕ} In r c.args.layouts.now.reading c.args.plan.now.prepared one c.in-Always.step c.args.places c.args.input.now c.args.output.now
-    (Ok 0) c.make_prepared.new.output before _ _ c.requires.stand carries c.in-Ok.ensures.made spent c.in-Ok.ensures.spends
+    (Ok 0) c.make_prepared.new.output before _ _ c.requires.keeps c.requires.stand carries c.in-Ok.ensures.made spent c.in-Ok.ensures.spends
 
 pub returns-in-Ok-run_pictured-clause-moved : goal.returns-in-Ok-run_pictured-clause-moved
 returns-in-Ok-run_pictured-clause-moved c = λ yes.

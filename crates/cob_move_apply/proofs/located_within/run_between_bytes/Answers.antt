@@ -16,7 +16,7 @@ run_characters-requires c =
 pub returns-in-Characters-clause-gets : goal.returns-in-Characters-clause-gets
 returns-in-Characters-clause-gets c =
     let gives = rw c.in-Characters.is at c.requires.carries in
-    got_characters c.args.plan.now.prepared c.args.kinds.now.sender.now c.args.kinds.now.receiver.now c.in-Characters.right c.args.from.now (length c.args.to.now) (Some c.run_characters.new.to) c.args.reading gives
+    got_characters c.args.plan.now.prepared c.args.kinds.now.sender.now c.args.kinds.now.receiver.now c.in-Characters.right c.args.from.now (length c.args.to.now) (Some c.run_characters.new.to) c.args.reading c.requires.keeps gives
     c.requires.sent c.requires.received c.run_characters.ensures
 
 pub run-requires : goal.run-requires
@@ -31,7 +31,7 @@ run-requires c =
 pub returns-in-Always-clause-gets : goal.returns-in-Always-clause-gets
 returns-in-Always-clause-gets c =
     let carries = rw c.in-Always.is at c.requires.carries in
-    got_always c.args.plan.now.prepared c.args.kinds.now.sender.now c.args.kinds.now.receiver.now c.in-Always.step c.args.from.now (length c.args.to.now) (outcome c.run.result c.run.new.to) c.args.reading carries
+    got_always c.args.plan.now.prepared c.args.kinds.now.sender.now c.args.kinds.now.receiver.now c.in-Always.step c.args.from.now (length c.args.to.now) (outcome c.run.result c.run.new.to) c.args.reading c.requires.keeps carries
     c.requires.sent c.requires.received c.run.ensures.gets
 
 pub run-requires-in-Pictured : goal.run-requires-in-Pictured

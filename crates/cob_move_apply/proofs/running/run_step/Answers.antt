@@ -198,7 +198,7 @@ returns-in-Characters-clause-applied g c = λ yes given own is.
     let on : Support = support_of c.args.plan.now in
     let this = subst (λ (s : Step). IsStep x r given on s own) c.in-Characters.is is in
     let p : PreparedMove = record { places = c.in-Characters.one.places; step = Characters c.in-Characters.one.step } in
-    made_prepared In x r on.prepared p own c.args.input.now c.args.output.now (done c.make_characters.new.output) c.requires.input c.requires.output c.make_characters.ensures.made this
+    made_prepared In x r on.prepared p own c.args.input.now c.args.output.now (done c.make_characters.new.output) c.requires.keeps c.requires.input c.requires.output c.make_characters.ensures.made this
 
 pub returns-in-Characters-clause-spends : goal.returns-in-Characters-clause-spends
 returns-in-Characters-clause-spends g c = λ yes given own is.
@@ -207,7 +207,7 @@ returns-in-Characters-clause-spends g c = λ yes given own is.
     let on : Support = support_of c.args.plan.now in
     let this = subst (λ (s : Step). IsStep x r given on s own) c.in-Characters.is is in
     let p : PreparedMove = record { places = c.in-Characters.one.places; step = Characters c.in-Characters.one.step } in
-    prepared_spends {A = ℕ} In x r on.prepared p own c.args.input.now c.args.output.now (Ok 0) c.make_characters.new.output _ _ c.make_characters.ensures.made c.make_characters.ensures.spends this
+    prepared_spends {A = ℕ} In x r on.prepared p own c.args.input.now c.args.output.now (Ok 0) c.make_characters.new.output _ _ c.requires.keeps c.make_characters.ensures.made c.make_characters.ensures.spends this
 
 pub run_part-requires-clause-part : goal.run_part-requires-clause-part
 run_part-requires-clause-part g c =

@@ -35,7 +35,7 @@ step_anywhere-requires-clause-room c = ap length c.as_mut_slice-content.ensures.
 pub returns-then-step_anywhere-clause-applied : goal.returns-then-step_anywhere-clause-applied
 returns-then-step_anywhere-clause-applied c = λ own is.
     let p : PreparedMove = record { places = c.args.places.now; step = c.args.step } in
-    made_prepared Out c.args.layouts.now.reading (records c.args.layouts.now) c.args.plan.now.prepared p own c.args.input.now c.args.output.now (done c.step_anywhere.new.storage) c.requires.input c.requires.output
+    made_prepared Out c.args.layouts.now.reading (records c.args.layouts.now) c.args.plan.now.prepared p own c.args.input.now c.args.output.now (done c.step_anywhere.new.storage) c.requires.keeps c.requires.input c.requires.output
     (subst (λ (b : Bool). IsMadeReady Out p c.args.plan.now.prepared c.args.output.now c.args.output.now (ended Out c.args.places.now b c.step_anywhere.new.storage)) c.if-step_anywhere.true c.step_anywhere.ensures.made) is
 
 pub returns-then-step_anywhere-clause-space : goal.returns-then-step_anywhere-clause-space
@@ -55,14 +55,14 @@ returns-then-step_anywhere-clause-space c =
 pub returns-then-step_anywhere-clause-spends : goal.returns-then-step_anywhere-clause-spends
 returns-then-step_anywhere-clause-spends c = λ own is.
     let p : PreparedMove = record { places = c.args.places.now; step = c.args.step } in
-    prepared_spends {A = ℕ} Out c.args.layouts.now.reading (records c.args.layouts.now) c.args.plan.now.prepared p own c.args.input.now c.args.output.now (Ok 0) c.step_anywhere.new.storage _ _
+    prepared_spends {A = ℕ} Out c.args.layouts.now.reading (records c.args.layouts.now) c.args.plan.now.prepared p own c.args.input.now c.args.output.now (Ok 0) c.step_anywhere.new.storage _ _ c.requires.keeps
     (subst (λ (b : Bool). IsMadeReady Out p c.args.plan.now.prepared c.args.output.now c.args.output.now (ended Out c.args.places.now b c.step_anywhere.new.storage)) c.if-step_anywhere.true c.step_anywhere.ensures.made)
     (c.change_output.ensures.spends c.args.output.now c.requires.space.surveyed_output) is
 
 pub returns-else-step_anywhere-clause-applied : goal.returns-else-step_anywhere-clause-applied
 returns-else-step_anywhere-clause-applied c = λ own is.
     let p : PreparedMove = record { places = c.args.places.now; step = c.args.step } in
-    made_prepared Out c.args.layouts.now.reading (records c.args.layouts.now) c.args.plan.now.prepared p own c.args.input.now c.args.output.now (stopped (stop_at Out c.args.places.now.from.offset NoValue) c.step_anywhere.new.storage) c.requires.input c.requires.output
+    made_prepared Out c.args.layouts.now.reading (records c.args.layouts.now) c.args.plan.now.prepared p own c.args.input.now c.args.output.now (stopped (stop_at Out c.args.places.now.from.offset NoValue) c.step_anywhere.new.storage) c.requires.keeps c.requires.input c.requires.output
     (subst (λ (b : Bool). IsMadeReady Out p c.args.plan.now.prepared c.args.output.now c.args.output.now (ended Out c.args.places.now b c.step_anywhere.new.storage)) c.if-step_anywhere.false c.step_anywhere.ensures.made) is
 
 pub returns-else-step_anywhere-clause-space : goal.returns-else-step_anywhere-clause-space
@@ -78,7 +78,7 @@ returns-else-step_anywhere-clause-space c =
 pub returns-else-step_anywhere-clause-spends : goal.returns-else-step_anywhere-clause-spends
 returns-else-step_anywhere-clause-spends c = λ own is.
     let p : PreparedMove = record { places = c.args.places.now; step = c.args.step } in
-    prepared_spends {A = ℕ} Out c.args.layouts.now.reading (records c.args.layouts.now) c.args.plan.now.prepared p own c.args.input.now c.args.output.now (Err (stop_at Out c.args.places.now.from.offset NoValue)) c.step_anywhere.new.storage _ _
+    prepared_spends {A = ℕ} Out c.args.layouts.now.reading (records c.args.layouts.now) c.args.plan.now.prepared p own c.args.input.now c.args.output.now (Err (stop_at Out c.args.places.now.from.offset NoValue)) c.step_anywhere.new.storage _ _ c.requires.keeps
     (subst (λ (b : Bool). IsMadeReady Out p c.args.plan.now.prepared c.args.output.now c.args.output.now (ended Out c.args.places.now b c.step_anywhere.new.storage)) c.if-step_anywhere.false c.step_anywhere.ensures.made)
     (spent_none c.args.layouts.now.output.now c.args.space.now.output) is
 

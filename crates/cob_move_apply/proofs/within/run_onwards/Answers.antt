@@ -23,7 +23,7 @@ step_onwards-requires-clause-within c =
 pub returns-then-step_onwards-clause-applied : goal.returns-then-step_onwards-clause-applied
 returns-then-step_onwards-clause-applied c = λ yes own is.
     let p : PreparedMove = record { places = c.args.places.now; step = c.args.step } in
-    made_prepared Out c.args.layouts.now.reading (records c.args.layouts.now) c.args.plan.now.prepared p own c.args.input.now c.args.output.now (done c.step_onwards.new.storage) c.requires.input c.requires.output
+    made_prepared Out c.args.layouts.now.reading (records c.args.layouts.now) c.args.plan.now.prepared p own c.args.input.now c.args.output.now (done c.step_onwards.new.storage) c.requires.keeps c.requires.input c.requires.output
     (subst (λ (b : Bool). IsMadeReady Out p c.args.plan.now.prepared c.args.output.now c.args.output.now (ended Out c.args.places.now b c.step_onwards.new.storage)) c.if-step_onwards.true c.step_onwards.ensures.made) is
 
 pub returns-then-step_onwards-clause-space : goal.returns-then-step_onwards-clause-space
@@ -41,6 +41,6 @@ returns-then-step_onwards-clause-space c =
 pub returns-then-step_onwards-clause-spends : goal.returns-then-step_onwards-clause-spends
 returns-then-step_onwards-clause-spends c = λ yes own is.
     let p : PreparedMove = record { places = c.args.places.now; step = c.args.step } in
-    prepared_spends {A = ℕ} Out c.args.layouts.now.reading (records c.args.layouts.now) c.args.plan.now.prepared p own c.args.input.now c.args.output.now (Ok 0) c.step_onwards.new.storage _ _
+    prepared_spends {A = ℕ} Out c.args.layouts.now.reading (records c.args.layouts.now) c.args.plan.now.prepared p own c.args.input.now c.args.output.now (Ok 0) c.step_onwards.new.storage _ _ c.requires.keeps
     (subst (λ (b : Bool). IsMadeReady Out p c.args.plan.now.prepared c.args.output.now c.args.output.now (ended Out c.args.places.now b c.step_onwards.new.storage)) c.if-step_onwards.true c.step_onwards.ensures.made)
     (c.change_output.ensures.spends c.args.output.now c.requires.space.surveyed_output) is

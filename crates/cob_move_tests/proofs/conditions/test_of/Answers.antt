@@ -2,9 +2,9 @@ use Rattle.std.proofs.Common.{inr, refl}
 use Rattle.std.proofs.lemmas.Result.{err_from_is_err_and}
 use Rattle.cob_move_statements.specs.Written.{written_reference, written_sender}
 use Rattle.cob_move_tests.specs.Compared.{sender_in, stated_in}
-use Rattle.cob_move_tests.specs.Entries.{nameable, records_of}
+use Rattle.cob_move_tests.specs.Entries.{nameable, records_of, valued_in}
 use Rattle.cob_move_tests.proofs.AskedLemmas.{both_more, none_more}
-use Rattle.cob_move_tests.proofs.StepLemmas.{alone_read, memory_left, quality_stands, relates_broken, relates_read, relates_to_read}
+use Rattle.cob_move_tests.proofs.StepLemmas.{memory_left, quality_stands, relates_broken, relates_read, relates_to_read, stands_read}
 use Rattle.cob_move_tests.proofs.conditions.test_of.Goals as goal
 
 -- ---- a relation
@@ -16,12 +16,12 @@ returns-in_err-subject-in-Relates-clause-fault c =
 
 pub returns-in_ok-subject-in-Relates-clause-found : goal.returns-in_ok-subject-in-Relates-clause-found
 returns-in_ok-subject-in-Relates-clause-found c =
-    rw c.in-Relates.is (relates_read (nameable c.args.entries.now) (records_of c.args.entries.now) c.relation_of.new.asked.items (sender_in (records_of c.args.entries.now) c.compared_of.new.asked.items c.in_ok-subject-in-Relates.subject) (written_sender c.in-Relates.first) (written_sender c.in-Relates.second) c.in-Relates.relation (stated_in (records_of c.args.entries.now) c.args.asked.now.items c.args.last) c.relation_of.result
+    rw c.in-Relates.is (relates_read (nameable c.args.entries.now) (valued_in c.args.entries.now) (records_of c.args.entries.now) c.relation_of.new.asked.items (sender_in (records_of c.args.entries.now) c.compared_of.new.asked.items c.in_ok-subject-in-Relates.subject) (written_sender c.in-Relates.first) (written_sender c.in-Relates.second) c.in-Relates.relation (stated_in (records_of c.args.entries.now) c.args.asked.now.items c.args.last) c.relation_of.result
     c.in_ok-subject-in-Relates.ensures.found c.relation_of.ensures.found)
 
 pub returns-in_ok-subject-in-Relates-clause-fault : goal.returns-in_ok-subject-in-Relates-clause-fault
 returns-in_ok-subject-in-Relates-clause-fault c =
-    rw c.in-Relates.is (relates_broken (nameable c.args.entries.now) (records_of c.args.entries.now) (sender_in (records_of c.args.entries.now) c.compared_of.new.asked.items c.in_ok-subject-in-Relates.subject) (written_sender c.in-Relates.first) (written_sender c.in-Relates.second) c.in-Relates.relation (stated_in (records_of c.args.entries.now) c.args.asked.now.items c.args.last) c.relation_of.result
+    rw c.in-Relates.is (relates_broken (nameable c.args.entries.now) (valued_in c.args.entries.now) (records_of c.args.entries.now) (sender_in (records_of c.args.entries.now) c.compared_of.new.asked.items c.in_ok-subject-in-Relates.subject) (written_sender c.in-Relates.first) (written_sender c.in-Relates.second) c.in-Relates.relation (stated_in (records_of c.args.entries.now) c.args.asked.now.items c.args.last) c.relation_of.result
     c.in_ok-subject-in-Relates.ensures.found c.relation_of.ensures.fault)
 
 pub returns-in_ok-subject-in-Relates-clause-grown : goal.returns-in_ok-subject-in-Relates-clause-grown
@@ -35,7 +35,7 @@ relation_of-requires-in-Some-clause-there c = rw c.in-Some.is at c.requires.ther
 
 pub returns-in-Some-clause-found : goal.returns-in-Some-clause-found
 returns-in-Some-clause-found c =
-    rw (c.in-RelatesTo.is, c.in-Some.is) (relates_to_read (nameable c.args.entries.now) (records_of c.args.entries.now) c.relation_of-in-Some.new.asked.items (sender_in (records_of c.args.entries.now) c.args.asked.now.items c.in-Some.stated.subject) c.in-Some.stated.relation c.in-RelatesTo.relation (written_sender c.in-RelatesTo.second) c.relation_of-in-Some.result
+    rw (c.in-RelatesTo.is, c.in-Some.is) (relates_to_read (nameable c.args.entries.now) (valued_in c.args.entries.now) (records_of c.args.entries.now) c.relation_of-in-Some.new.asked.items (sender_in (records_of c.args.entries.now) c.args.asked.now.items c.in-Some.stated.subject) c.in-Some.stated.relation c.in-RelatesTo.relation (written_sender c.in-RelatesTo.second) c.relation_of-in-Some.result
     c.relation_of-in-Some.ensures.found)
 
 pub returns-in-Some-clause-fault : goal.returns-in-Some-clause-fault
@@ -49,22 +49,13 @@ returns-in-None-clause-fault c = rw (c.in-RelatesTo.is, c.in-None.is) (inr refl)
 
 -- ---- an operand alone
 
-pub relation_of-requires-in-Some-last-clause-there : goal.relation_of-requires-in-Some-last-clause-there
-relation_of-requires-in-Some-last-clause-there c = rw c.in-Some-last.is at c.requires.there
+pub returns-in-StandsAlone-clause-found : goal.returns-in-StandsAlone-clause-found
+returns-in-StandsAlone-clause-found c =
+    rw c.in-StandsAlone.is (stands_read (nameable c.args.entries.now) (valued_in c.args.entries.now) (records_of c.args.entries.now) c.alone_of.new.asked.items (written_sender c.in-StandsAlone.second) (stated_in (records_of c.args.entries.now) c.args.asked.now.items c.args.last) c.alone_of.result
+    c.alone_of.ensures.found)
 
-pub returns-in-Some-last-clause-found : goal.returns-in-Some-last-clause-found
-returns-in-Some-last-clause-found c =
-    rw (c.in-StandsAlone.is, c.in-Some-last.is) (alone_read (nameable c.args.entries.now) (records_of c.args.entries.now) c.relation_of-in-Some-last.new.asked.items (sender_in (records_of c.args.entries.now) c.args.asked.now.items c.in-Some-last.stated.subject) c.in-Some-last.stated.relation (written_sender c.in-StandsAlone.second) c.relation_of-in-Some-last.result
-    c.relation_of-in-Some-last.ensures.found)
-
-pub returns-in-Some-last-clause-fault : goal.returns-in-Some-last-clause-fault
-returns-in-Some-last-clause-fault c = rw (c.in-StandsAlone.is, c.in-Some-last.is) c.relation_of-in-Some-last.ensures.fault
-
-pub returns-in-None-last-clause-grown : goal.returns-in-None-last-clause-grown
-returns-in-None-last-clause-grown c = none_more (records_of c.args.entries.now) c.args.asked.now.items
-
-pub returns-in-None-last-clause-fault : goal.returns-in-None-last-clause-fault
-returns-in-None-last-clause-fault c = rw (c.in-StandsAlone.is, c.in-None-last.is) (inr c.alone.ensures)
+pub returns-in-StandsAlone-clause-fault : goal.returns-in-StandsAlone-clause-fault
+returns-in-StandsAlone-clause-fault c = rw c.in-StandsAlone.is c.alone_of.ensures.fault
 
 -- ---- a class or a sign
 
@@ -75,4 +66,4 @@ returns-in_err-condition-in-Has-clause-fault c =
 
 pub returns-in_ok-condition-in-Has-clause-found : goal.returns-in_ok-condition-in-Has-clause-found
 returns-in_ok-condition-in-Has-clause-found c =
-    rw c.in-Has.is (quality_stands (nameable c.args.entries.now) (records_of c.args.entries.now) c.quality_of.new.asked.items (written_reference c.in-Has.entry) c.in-Has.opposite c.in-Has.quality (stated_in (records_of c.args.entries.now) c.args.asked.now.items c.args.last) c.in_ok-condition-in-Has.condition c.in_ok-condition-in-Has.ensures.found c.in_ok-condition-in-Has.ensures.testable)
+    rw c.in-Has.is (quality_stands (nameable c.args.entries.now) (valued_in c.args.entries.now) (records_of c.args.entries.now) c.quality_of.new.asked.items (written_reference c.in-Has.entry) c.in-Has.opposite c.in-Has.quality (stated_in (records_of c.args.entries.now) c.args.asked.now.items c.args.last) c.in_ok-condition-in-Has.condition c.in_ok-condition-in-Has.ensures.found c.in_ok-condition-in-Has.ensures.testable)

@@ -73,5 +73,5 @@ returns-clause-named c =
       out_size = block_sized look (codes "out-block") c.in_ok-out_form.out_form c.sized-2.result c.in_ok-out_block.out_block c.sized-2.ensures.value c.in_ok-out_block.ensures.named;
       in_sized = sized_again c.in_ok-in_form.in_form c.sized.result c.in_ok-in_block.in_block c.sized.ensures.value;
       out_sized = sized_again c.in_ok-out_form.out_form c.sized-2.result c.in_ok-out_block.out_block c.sized-2.ensures.value;
-      word = c.in_ok-reading.ensures.named;
+      reads = c.in_ok-reading.ensures.named;
     }

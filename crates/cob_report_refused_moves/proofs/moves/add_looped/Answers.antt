@@ -9,5 +9,5 @@ pub returns : goal.returns
 returns c =
     let p = c.requires.0 in
     let same = ap all_runs c.as_slice.ensures.value ∙ c.in_ok-runs.ensures p c.requires.1 in
-    on_wider c.add_runs.result (λ adds text has all.
-    adds text (λ run some. has run (inl (p, c.requires.1, subst (SomeOf (λ (ws : List Lexeme). ws ≡ run)) same some))) all) c.add_runs.ensures
+    on_wider c.add_runs.result (λ adds text names has all.
+    adds text names (λ run some. has run (inl (p, c.requires.1, subst (SomeOf (λ (ws : List Lexeme). ws ≡ run)) same some))) all) c.add_runs.ensures

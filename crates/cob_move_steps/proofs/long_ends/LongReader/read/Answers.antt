@@ -25,7 +25,7 @@ returns-in-Lanes c = λ from reading is suits within.
     elim own [
       | inl number ↦
           number_wide reading from item read.front read.back read.is_number read.minus number.number
-          (pair_read (IsSentBy reading from) (item_size from) r bytes read.front read.back read.is_number read.minus (number.reads reading) within c.read.ensures)
+          (pair_read (IsSentBy reading from) (item_size from) r bytes read.front read.back read.is_number read.minus (number.reads reading suits.0) within c.read.ensures)
       | inr numeral ↦
           characters_wide reading from item read.front read.back read.is_number read.minus numeral.characters (last_size (item_size from) bytes within)
           (pair_read (AreNumeralsOf (item_size from)) (item_size from) r bytes read.front read.back read.is_number read.minus numeral.reads within c.read.ensures)
@@ -41,8 +41,8 @@ returns-in-Digits c = λ from reading is suits within.
     elim own [
       | inl number ↦
           number_wide reading from item read.front read.back read.is_number read.minus number.number
-          (digits_read (IsSentBy reading from) (item_size from) r bytes read.front read.back read.is_number read.minus (number.reads reading) within r.digits.within
-          (c.read_digits.ensures (subst (λ n. n ≤ length bytes) (sym (number.reads reading).bytes) within)))
+          (digits_read (IsSentBy reading from) (item_size from) r bytes read.front read.back read.is_number read.minus (number.reads reading suits.0) within r.digits.within
+          (c.read_digits.ensures (subst (λ n. n ≤ length bytes) (sym (number.reads reading suits.0).bytes) within)))
       | inr numeral ↦
           characters_wide reading from item read.front read.back read.is_number read.minus numeral.characters (last_size (item_size from) bytes within)
           (digits_read (AreNumeralsOf (item_size from)) (item_size from) r bytes read.front read.back read.is_number read.minus numeral.reads within r.digits.within
@@ -55,7 +55,7 @@ returns-in-Word c = λ from reading is suits within.
     let bytes = c.args.bytes.now in
     let long : binary_length (item_digits from) ≤ length bytes = subst (λ n. n ≤ length bytes) (size_is from own.binary) within in
     let read = c.read_word.result in
-    word_wide reading from bytes read.front read.back read.is_number read.minus own.number own.binary (suits (ap is_read_whole own.binary))
+    word_wide reading from bytes read.front read.back read.is_number read.minus own.number own.binary (suits.1 (ap is_read_whole own.binary))
     (c.read_word.ensures (item_digits from) (signed from.picture.positions) own.reads long)
 
 pub returns-in-Text : goal.returns-in-Text

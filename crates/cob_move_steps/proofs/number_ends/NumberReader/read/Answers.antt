@@ -20,7 +20,7 @@ returns-in-Lanes c = λ from to reading is suits within.
     elim own [
       | inl number ↦
           number_given reading from (last_bytes (item_size from) bytes) r.digits (item_digits to) shift r.is_number r.minus number.number
-          (item_read from reading (item_digits to) shift c.in-Lanes.reader bytes r.digits r.is_number r.minus number.reads within c.read.ensures)
+          (item_read from reading (item_digits to) shift c.in-Lanes.reader bytes r.digits r.is_number r.minus number.reads suits.0 within c.read.ensures)
       | inr numeral ↦
           numerals_given reading from (last_bytes (item_size from) bytes) r.digits (item_digits to) shift r.is_number r.minus numeral.characters (last_size (item_size from) bytes within)
           (lanes_read (AreNumeralsOf (item_size from)) (item_size from) (item_digits to) shift c.in-Lanes.reader bytes r.digits r.is_number r.minus numeral.reads within c.read.ensures)
@@ -33,5 +33,5 @@ returns-in-Binary c = λ from to reading is suits within.
     let shift = scale to.picture.positions -ℤ scale from.picture.positions in
     let r = c.read_word.result in
     number_given reading from (last_bytes (item_size from) c.args.bytes.now) r.digits (item_digits to) shift r.is_number r.minus own.number
-    (word_read from to reading c.args.bytes.now r.digits r.is_number r.minus own.binary (suits (ap is_read_whole own.binary))
+    (word_read from to reading c.args.bytes.now r.digits r.is_number r.minus own.binary (suits.1 (ap is_read_whole own.binary))
     (c.read_word.ensures (item_digits from) (signed from.picture.positions) (item_digits to) shift own.reads long))

@@ -11,12 +11,12 @@ use Rattle.cob_move_steps.proofs.EditLemmas.{edited_as, led_by}
 use Rattle.cob_move_steps.proofs.text_step.TextStep.run.Goals as goal
 
 pub returns-then-not-read-clause-gets : goal.returns-then-not-read-clause-gets
-returns-then-not-read-clause-gets c = λ s r is within size reading.
+returns-then-not-read-clause-gets c = λ s r is within size reading keeps.
     let told = c.read-read.result in
     no_text_moved s r c.args.self.now reading c.args.from.now told.is_number told.minus told.digits c.args.to.now (length c.args.to.now) is c.if-not-read.true (c.read-read.ensures s r reading is.reader within)
 
 pub returns-in-Number-clause-gets : goal.returns-in-Number-clause-gets
-returns-in-Number-clause-gets c = λ s r is within size reading.
+returns-in-Number-clause-gets c = λ s r is within size reading keeps.
     let told = c.read-read.result in
     let left = c.keeps_minus.ensures in
     let w : IsNumberWriterFor r c.in-Number.writer = subst (λ w. IsReceiverWriterFor r w) c.in-Number.is is.writer in
@@ -24,7 +24,7 @@ returns-in-Number-clause-gets c = λ s r is within size reading.
     w size c.if-not-read.false (c.read-read.ensures s r reading is.reader within) left.1 left.2 (c.write_number.ensures r w size)
 
 pub returns-in-Text-clause-gets : goal.returns-in-Text-clause-gets
-returns-in-Text-clause-gets c = λ s r is within size reading.
+returns-in-Text-clause-gets c = λ s r is within size reading keeps.
     let told = c.read-read.result in
     let bytes = c.args.from.now in
     let read = c.read-read.ensures s r reading is.reader within in

@@ -1,0 +1,34 @@
+-- Moves that are carried out statement by statement, by the rule of MOVE alone.
+use Rattle.std.specs.Prelude.{◌≡◌, ◌<◌, ℕ, ◌+◌, List, ◌++◌, length, None}
+use Rattle.std.specs.List.{AllByRecursion}
+use Rattle.cob_move_data.specs.declared.operands.StatementMoves.{StatementMoves}
+use Rattle.cob_move_data.specs.declared.operands.StatementMoves.TheVariants.{Single, Pairs}
+use Rattle.cob_move_data.specs.Moves.{Move, Records}
+use Rattle.cob_move_apply.specs.Applied.{Applied, Ending}
+use Rattle.cob_move_apply.specs.Met.{HaveMet}
+use Rattle.cob_move_apply.specs.Spent.{IsSpent}
+use Rattle.cob_move_apply.specs.declared.basis.Basis.{Basis}
+use Rattle.cob_move_apply.specs.declared.basis.Basis.TheVariants as basis
+use Rattle.cob_move_apply.specs.declared.survey.Survey.{Survey}
+
+-- how many receivers a move of a statement has at most
+abbrev pub most_receivers : StatementMoves → ℕ
+most_receivers (Single m) = length m.receivers.items
+most_receivers (Pairs g) = 1
+
+-- nothing is noted of these bases
+abbrev pub NothingIsNoted : List Basis → Type 0
+NothingIsNoted bases = AllByRecursion (λ b. b ≡ basis.Counted None) bases
+
+-- Nothing is noted of these bases, and there is one for a sender and one for each receiver of any move of these statements.
+pub record AreUnnoted (given : List StatementMoves) (bases : List Basis) : Type 0 where
+  pub none : NothingIsNoted bases
+  pub room : AllByRecursion (λ s. most_receivers s < length bases) given
+
+-- Of these moves the rest is left, where the storage is as it is now: whatever the rest makes of it, all make of the storage before; so it is with the receivers
+-- that meet the item of a count; and what was read so far is allowed.
+pub record AreGone (r : Records) (all rest : List Move) (input before now : List ℕ) (old new : Survey) : Type 0 where
+  pub so : (end : Ending) → Applied r rest input now end → Applied r all input before end
+  pub met : ℕ
+  pub meets : (behind : List Move) (n : ℕ) → HaveMet r (rest ++ behind) input now n → HaveMet r (all ++ behind) input before (met + n)
+  pub spent : IsSpent r.output met old new

@@ -1,8 +1,0 @@
-use Rattle.std.proofs.Common.{refl}
-use Rattle.cob_move_choices.proofs.values.compares.Goals as goal
-
-pub returns-clause-means : goal.returns-clause-means
-returns-clause-means c = λ entry. refl
-
-pub returns-clause-testable : goal.returns-clause-testable
-returns-clause-testable c = λ r asked may. (may.0, tt, may.1)
