@@ -1,6 +1,7 @@
 //! Whole copybooks.
 
 use crate::nodes::{push_each, push_names};
+use crate::refusal::Refusal;
 use crate::texts::many_of;
 use cob_copybook::{Book, Role};
 use cob_test_rows::{Row, RowFault};
@@ -40,26 +41,21 @@ fn text_of(alloc: Global, question: &str, row: &Row) -> Result<Vec<u8>, RowFault
     }
 }
 
-/// Reads a text as a copybook, and writes what is asked for of it, or the rule that it breaks.
-fn push_read(
-    alloc: Global,
-    role: Role,
-    shown: Shown,
-    text: &[u8],
-    out: &mut String,
-) -> Result<(), AllocError> {
+/// The copybook of a text.
+fn book_of(alloc: Global, role: Role, text: &[u8]) -> Result<Book, Refusal> {
     match Book::read(alloc, role, text) {
-        Ok(book) => push_book(out, shown, &book),
-        Err(fault) => write!(out, "{fault}"),
+        Ok(book) => Ok(book),
+        Err(fault) => Err(Refusal::Text(fault)),
     }
 }
 
 /// Writes the answer to a row's question about a copybook.
-pub(crate) fn answer(alloc: Global, row: &Row, out: &mut String) -> Result<(), RowFault> {
+pub(crate) fn answer(alloc: Global, row: &Row, out: &mut String) -> Result<(), Refusal> {
     let question = row.field(0)?;
     let (role, shown) = asked_of(question)?;
     let text = text_of(alloc, question, row)?;
-    Ok(push_read(alloc, role, shown, text.as_slice(), out)?)
+    let book = book_of(alloc, role, text.as_slice())?;
+    Ok(push_book(out, shown, &book)?)
 }
 
 /// Writes what is asked for of a copybook.

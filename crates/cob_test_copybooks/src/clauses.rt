@@ -1,12 +1,13 @@
 //! Sentences, and the clauses of one entry as they are written.
 
-use crate::texts::{push_whether, push_word};
+use crate::refusal::Refusal;
+use crate::texts::{push_whether, push_word, words_of};
 use cob_copybook_clauses::{
     Clauses, Count, OccursClause, ValueClause, is_condition, is_name, left_out,
     read_condition_name, read_entry, sentence_at,
 };
-use cob_copybook_entry::{BookFault, Sign, Usage};
-use cob_source::{Token, tokens};
+use cob_copybook_entry::{Sign, Usage};
+use cob_source::Token;
 use cob_test_rows::{Row, RowFault};
 use std::alloc::{AllocError, Global};
 use std::fmt::Write;
@@ -39,28 +40,15 @@ fn question_of(name: &str) -> Result<Question, RowFault> {
 }
 
 /// Writes the answer to a row's question about a text.
-pub(crate) fn answer(alloc: Global, row: &Row, out: &mut String) -> Result<(), RowFault> {
-    match row.field(0)? {
-        "name" => Ok(push_whether(out, is_name(row.field(1)?.as_bytes()))?),
-        name => {
-            let question = question_of(name)?;
-            let text = row.lines(alloc, 1)?;
-            Ok(push_read(alloc, question, text.as_slice(), out)?)
-        }
+pub(crate) fn answer(alloc: Global, row: &Row, out: &mut String) -> Result<(), Refusal> {
+    let name = row.field(0)?;
+    if name == "name" {
+        return Ok(push_whether(out, is_name(row.field(1)?.as_bytes()))?);
     }
-}
-
-/// Writes the answer to a question about the words of a text, or the rule that it breaks.
-fn push_read(
-    alloc: Global,
-    question: Question,
-    text: &[u8],
-    out: &mut String,
-) -> Result<(), AllocError> {
-    match tokens(alloc, text) {
-        Ok(words) => push_answer(out, question, words.as_slice()),
-        Err(fault) => write!(out, "{}", BookFault::from(fault)),
-    }
+    let question = question_of(name)?;
+    let text = row.lines(alloc, 1)?;
+    let words = words_of(alloc, text.as_slice())?;
+    Ok(push_answer(out, question, words.as_slice())?)
 }
 
 /// Writes the answer to a question about words.

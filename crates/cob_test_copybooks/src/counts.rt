@@ -1,6 +1,6 @@
 //! The counts of tables.
 
-use crate::refusal::{Refusal, told};
+use crate::refusal::Refusal;
 use crate::trees::tree_of;
 use cob_copybook_names::counts;
 use cob_test_rows::{Row, RowFault};
@@ -19,12 +19,12 @@ fn push_counts(out: &mut String, counts: &[Option<usize>]) -> Result<(), AllocEr
     Ok(())
 }
 
-/// Writes the number of each entry's count.
-fn push_counts_of(alloc: Global, row: &Row, out: &mut String) -> Result<(), Refusal> {
-    let tree = tree_of(alloc, row, out)?;
+/// The number of each entry's count.
+fn counts_of(alloc: Global, row: &Row) -> Result<Vec<Option<usize>>, Refusal> {
+    let tree = tree_of(alloc, row)?;
     match counts(alloc, &tree) {
-        Ok(counts) => Ok(push_counts(out, counts.as_slice())?),
-        Err(fault) => Err(told(out, &fault)),
+        Ok(counts) => Ok(counts),
+        Err(fault) => Err(Refusal::Text(fault)),
     }
 }
 
@@ -33,5 +33,5 @@ pub(crate) fn answer(alloc: Global, row: &Row, out: &mut String) -> Result<(), R
     if row.field(0)? != "counts" {
         return Err(Refusal::Row(RowFault::BadRow));
     }
-    push_counts_of(alloc, row, out)
+    Ok(push_counts(out, counts_of(alloc, row)?.as_slice())?)
 }

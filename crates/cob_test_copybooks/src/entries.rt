@@ -1,5 +1,6 @@
 //! The entries of a text, each by itself.
 
+use crate::refusal::Refusal;
 use crate::texts::{entries_of, many_of, push_word};
 use arrayvec::ArrayVec;
 use cob_copybook_entries::name_of_text;
@@ -11,30 +12,25 @@ use std::alloc::{AllocError, Global};
 use std::fmt::Write;
 
 /// Writes the answer to a row's question about a text.
-pub(crate) fn answer(alloc: Global, row: &Row, out: &mut String) -> Result<(), RowFault> {
+pub(crate) fn answer(alloc: Global, row: &Row, out: &mut String) -> Result<(), Refusal> {
     match row.field(0)? {
-        "entries" => Ok(push_read(alloc, &row.lines(alloc, 1)?, out)?),
-        "text" => Ok(push_read(alloc, &row.text(alloc, 1)?, out)?),
-        "many" => Ok(push_counted(alloc, &many_of(alloc, row)?, out)?),
+        "entries" => answer_to(alloc, row.lines(alloc, 1)?.as_slice(), out),
+        "text" => answer_to(alloc, row.text(alloc, 1)?.as_slice(), out),
+        "many" => answer_to_many(alloc, many_of(alloc, row)?.as_slice(), out),
         "name" => Ok(push_own_name(out, row.field(1)?)?),
-        _ => Err(RowFault::BadRow),
+        _ => Err(Refusal::Row(RowFault::BadRow)),
     }
 }
 
-/// Writes the entries of a text, or the rule that it breaks.
-fn push_read(alloc: Global, text: &[u8], out: &mut String) -> Result<(), AllocError> {
-    match entries_of(alloc, text) {
-        Ok(list) => push_entries(out, &list),
-        Err(fault) => write!(out, "{fault}"),
-    }
+/// Writes the entries of a text.
+fn answer_to(alloc: Global, text: &[u8], out: &mut String) -> Result<(), Refusal> {
+    Ok(push_entries(out, entries_of(alloc, text)?.as_slice())?)
 }
 
-/// Writes how many entries a text has, or the rule that it breaks.
-fn push_counted(alloc: Global, text: &[u8], out: &mut String) -> Result<(), AllocError> {
-    match entries_of(alloc, text) {
-        Ok(list) => write!(out, "{} entries", list.len()),
-        Err(fault) => write!(out, "{fault}"),
-    }
+/// Writes how many entries a text has.
+fn answer_to_many(alloc: Global, text: &[u8], out: &mut String) -> Result<(), Refusal> {
+    let list = entries_of(alloc, text)?;
+    Ok(write!(out, "{} entries", list.len())?)
 }
 
 /// Writes the name that a text is, or that it is none.

@@ -4,7 +4,7 @@ ghost use Rattle.std.specs.Prelude.{IsTrue};
 ghost use Rattle.cob_copybook_tree.specs.Nodes.{forest};
 ghost use Rattle.cob_copybook_rules.specs.Areas.{ArePossible};
 
-use crate::refusal::{Refusal, told};
+use crate::refusal::Refusal;
 use crate::trees::record_of;
 use cob_copybook_rules::judge_lengths;
 use cob_copybook_tree::{Kind, Node};
@@ -13,14 +13,11 @@ use std::alloc::Global;
 use std::slice;
 
 /// Judges the lengths of a record.
-fn judge(root: &Node, out: &mut String) -> Result<(), Refusal> {
+fn judge(root: &Node) -> Result<(), Refusal> {
     if !are_possible(slice::from_ref(root)) {
         return Err(Refusal::Row(RowFault::BadRow));
     }
-    match judge_lengths(root) {
-        Ok(()) => Ok(out.push_str("yes")?),
-        Err(fault) => Err(told(out, &fault)),
-    }
+    Ok(judge_lengths(root)?)
 }
 
 /// Writes the answer to a row's question about entries.
@@ -28,7 +25,8 @@ pub(crate) fn answer(alloc: Global, row: &Row, out: &mut String) -> Result<(), R
     if row.field(0)? != "fit" {
         return Err(Refusal::Row(RowFault::BadRow));
     }
-    judge(&record_of(alloc, row, out)?, out)
+    judge(&record_of(alloc, row)?)?;
+    Ok(out.push_str("yes")?)
 }
 
 /// Whether the entries occur at least once, and the items have none beneath them.

@@ -22,49 +22,44 @@ mod words;
 use crate::refusal::Refusal;
 use cob_test_rows::{Family, Row, RowFault};
 use std::alloc::Global;
+use std::fmt::Write;
 
 /// The tables on copybooks.
 pub struct CopybookRows;
 
-/// Writes what comes of a row of a table on trees.
+/// Writes what comes of a row of a table.
 ///
 /// # Errors
-/// That there is no answer, or that the row's text breaks a rule, which is written.
-fn answer_of_tree(alloc: Global, table: &str, row: &Row, out: &mut String) -> Result<(), Refusal> {
+/// That there is no answer, or a rule that the row's text breaks.
+fn answer(alloc: Global, table: &str, row: &Row, out: &mut String) -> Result<(), Refusal> {
     match table {
+        "lines"
+        | "literals"
+        | "continuations"
+        | "comments"
+        | "directions"
+        | "tabs"
+        | "free"
+        | "paragraphs"
+        | "long_texts" => Ok(words::answer(alloc, table, row, out)?),
+        "clauses" => clauses::answer(alloc, row, out),
+        "entries" => entries::answer(alloc, row, out),
         "trees" => trees::answer(alloc, row, out),
         "rules" => rules::answer(alloc, row, out),
         "counts" => counts::answer(alloc, row, out),
         "lengths" => lengths::answer(alloc, row, out),
+        "names" => names::answer(alloc, row, out),
+        "accepted" | "refused" | "books" => books::answer(alloc, row, out),
         _ => Err(Refusal::Row(RowFault::BadRow)),
-    }
-}
-
-/// The same, where a rule that is written is an answer.
-fn answer_or_rule(alloc: Global, table: &str, row: &Row, out: &mut String) -> Result<(), RowFault> {
-    match answer_of_tree(alloc, table, row, out) {
-        Ok(()) | Err(Refusal::Told) => Ok(()),
-        Err(Refusal::Row(fault)) => Err(fault),
     }
 }
 
 impl Family for CopybookRows {
     fn answer(alloc: Global, table: &str, row: &Row, out: &mut String) -> Result<(), RowFault> {
-        match table {
-            "lines"
-            | "literals"
-            | "continuations"
-            | "comments"
-            | "directions"
-            | "tabs"
-            | "free"
-            | "paragraphs"
-            | "long_texts" => words::answer(alloc, table, row, out),
-            "clauses" => clauses::answer(alloc, row, out),
-            "entries" => entries::answer(alloc, row, out),
-            "names" => names::answer(alloc, row, out),
-            "accepted" | "refused" | "books" => books::answer(alloc, row, out),
-            _ => answer_or_rule(alloc, table, row, out),
+        match answer(alloc, table, row, out) {
+            Ok(()) => Ok(()),
+            Err(Refusal::Row(fault)) => Err(fault),
+            Err(Refusal::Text(fault)) => Ok(write!(out, "{fault}")?),
         }
     }
 }

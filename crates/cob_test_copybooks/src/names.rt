@@ -1,42 +1,39 @@
 //! The condition-names of a text.
 
 use crate::entries::push_constant;
+use crate::refusal::Refusal;
 use cob_copybook_conditions::{ConditionName, Span, condition_names};
 use cob_test_rows::{Row, RowFault};
 use std::alloc::{AllocError, Global};
 use std::fmt::Write;
 
-/// The text of a row.
-fn text_of(alloc: Global, row: &Row) -> Result<Vec<u8>, RowFault> {
-    match row.field(0)? {
-        "names" => row.lines(alloc, 1),
-        "text" => row.text(alloc, 1),
-        _ => Err(RowFault::BadRow),
-    }
-}
-
-/// Writes the condition-names of a text, or the rule that it breaks.
-fn push_read(alloc: Global, text: &[u8], out: &mut String) -> Result<(), AllocError> {
-    match condition_names(alloc, text) {
-        Ok(names) => push_names(out, names.as_slice()),
-        Err(fault) => write!(out, "{fault}"),
+/// The condition-names of a row's text.
+fn names_of(alloc: Global, row: &Row) -> Result<Vec<ConditionName>, Refusal> {
+    let text = match row.field(0)? {
+        "names" => row.lines(alloc, 1)?,
+        "text" => row.text(alloc, 1)?,
+        _ => return Err(Refusal::Row(RowFault::BadRow)),
+    };
+    match condition_names(alloc, text.as_slice()) {
+        Ok(names) => Ok(names),
+        Err(fault) => Err(Refusal::Text(fault)),
     }
 }
 
 /// Writes the answer to a row's question about a text: its condition-names, each with the number of its entry and its values.
-pub(crate) fn answer(alloc: Global, row: &Row, out: &mut String) -> Result<(), RowFault> {
-    let text = text_of(alloc, row)?;
-    Ok(push_read(alloc, text.as_slice(), out)?)
+pub(crate) fn answer(alloc: Global, row: &Row, out: &mut String) -> Result<(), Refusal> {
+    let names = names_of(alloc, row)?;
+    if names.is_empty() {
+        return Ok(out.push_str("none")?);
+    }
+    Ok(push_names(out, names.as_slice())?)
 }
 
-/// Writes condition-names, or that there is none.
+/// Writes condition-names.
 fn push_names(out: &mut String, names: &[ConditionName]) -> Result<(), AllocError> {
-    if names.is_empty() {
-        return out.push_str("none");
-    }
     for name in names {
-        let mark = if out.is_empty() { "" } else { " | " };
-        write!(out, "{mark}{} of {}:", name.name, name.entry)?;
+        out.push_str(if out.is_empty() { "" } else { " | " })?;
+        write!(out, "{} of {}:", name.name, name.entry)?;
         push_values(out, name.values.as_slice())?;
     }
     Ok(())
@@ -45,20 +42,15 @@ fn push_names(out: &mut String, names: &[ConditionName]) -> Result<(), AllocErro
 /// Writes the values of a condition-name.
 fn push_values(out: &mut String, values: &[Span]) -> Result<(), AllocError> {
     for value in values {
-        push_value(out, value)?;
-    }
-    Ok(())
-}
-
-/// Writes a value of a condition-name.
-fn push_value(out: &mut String, value: &Span) -> Result<(), AllocError> {
-    out.push(' ')?;
-    match value {
-        Span::One(value) => push_constant(out, value),
-        Span::FromTo(first, last) => {
-            push_constant(out, first)?;
-            out.push_str(" to ")?;
-            push_constant(out, last)
+        out.push(' ')?;
+        match value {
+            Span::One(value) => push_constant(out, value)?,
+            Span::FromTo(first, last) => {
+                push_constant(out, first)?;
+                out.push_str(" to ")?;
+                push_constant(out, last)?;
+            }
         }
     }
+    Ok(())
 }

@@ -3,15 +3,13 @@
 use cob_copybook_entry::BookFault;
 use cob_test_rows::RowFault;
 use std::alloc::AllocError;
-use std::fmt::Write;
 
 /// Why a row's question isn't answered as it is asked.
-#[derive(Clone, Copy)]
 pub(crate) enum Refusal {
     /// The row has no answer.
     Row(RowFault),
-    /// Its text breaks a rule, and the answer says which.
-    Told,
+    /// Its text breaks a rule, which is then the answer.
+    Text(BookFault),
 }
 
 impl From<RowFault> for Refusal {
@@ -26,10 +24,8 @@ impl From<AllocError> for Refusal {
     }
 }
 
-/// Answers with the rule that a text breaks.
-pub(crate) fn told(out: &mut String, fault: &BookFault) -> Refusal {
-    match write!(out, "{fault}") {
-        Ok(()) => Refusal::Told,
-        Err(_) => Refusal::Row(RowFault::Memory),
+impl From<BookFault> for Refusal {
+    fn from(fault: BookFault) -> Refusal {
+        Refusal::Text(fault)
     }
 }

@@ -1,6 +1,6 @@
 //! The rules that clauses keep among themselves.
 
-use crate::refusal::{Refusal, told};
+use crate::refusal::Refusal;
 use crate::trees::tree_of;
 use cob_copybook_rules::judge_clauses;
 use cob_test_rows::{Row, RowFault};
@@ -11,8 +11,7 @@ pub(crate) fn answer(alloc: Global, row: &Row, out: &mut String) -> Result<(), R
     if row.field(0)? != "agree" {
         return Err(Refusal::Row(RowFault::BadRow));
     }
-    match judge_clauses(&tree_of(alloc, row, out)?) {
-        Ok(()) => Ok(out.push_str("yes")?),
-        Err(fault) => Err(told(out, &fault)),
-    }
+    judge_clauses(&tree_of(alloc, row)?)?;
+    out.push_str("yes")?;
+    Ok(())
 }

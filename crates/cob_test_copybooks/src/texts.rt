@@ -2,13 +2,18 @@
 
 use cob_copybook_entries::entries;
 use cob_copybook_entry::{BookFault, Entry};
-use cob_source::tokens;
+use cob_source::{Token, tokens};
 use cob_test_rows::{Row, RowFault, lines_of};
 use std::alloc::{AllocError, Global};
 
+/// The words of a text.
+pub(crate) fn words_of(alloc: Global, text: &[u8]) -> Result<Vec<Token>, BookFault> {
+    Ok(tokens(alloc, text)?)
+}
+
 /// The entries of a text.
 pub(crate) fn entries_of(alloc: Global, text: &[u8]) -> Result<Vec<Entry>, BookFault> {
-    let words = tokens(alloc, text)?;
+    let words = words_of(alloc, text)?;
     entries(alloc, words.as_slice())
 }
 

@@ -6,7 +6,7 @@ ghost use Rattle.cob_copybook_tree.specs.Branches.{AreLevels, forest_of};
 ghost use Rattle.cob_copybook_tree.specs.Forests.{entries_in};
 
 use crate::nodes::{push_each, push_tree};
-use crate::refusal::{Refusal, told};
+use crate::refusal::Refusal;
 use crate::texts::entries_of;
 use cob_copybook_entry::Entry;
 use cob_copybook_tree::{
@@ -18,7 +18,7 @@ use std::fmt::Write;
 
 /// Writes the answer to a row's question about entries.
 pub(crate) fn answer(alloc: Global, row: &Row, out: &mut String) -> Result<(), Refusal> {
-    let root = record_of(alloc, row, out)?;
+    let root = record_of(alloc, row)?;
     Ok(push_record(out, row.field(0)?, &root)?)
 }
 
@@ -79,28 +79,20 @@ fn planted(alloc: Global, entries: Vec<Entry>) -> Result<Branch, Refusal>
     Ok(build_tree(alloc, entries)?)
 }
 
-/// The entries of a row.
-fn listed(alloc: Global, row: &Row, out: &mut String) -> Result<Vec<Entry>, Refusal> {
-    let text = row.lines(alloc, 1)?;
-    match entries_of(alloc, text.as_slice()) {
-        Ok(entries) => Ok(entries),
-        Err(fault) => Err(told(out, &fault)),
-    }
-}
-
 /// The tree of a row's entries.
-pub(crate) fn tree_of(alloc: Global, row: &Row, out: &mut String) -> Result<Branch, Refusal>
+pub(crate) fn tree_of(alloc: Global, row: &Row) -> Result<Branch, Refusal>
     ensures few { IfOk result (λ b. entries_in (forest_of (b ∷ [])) ≤ 65535) }
 {
-    let entries = listed(alloc, row, out)?;
+    let text = row.lines(alloc, 1)?;
+    let entries = entries_of(alloc, text.as_slice())?;
     planted(alloc, entries)
 }
 
 /// The record of a row's entries, with what they inherit. A third field has the number of each entry's count, and a hyphen for one
 /// without.
-pub(crate) fn record_of(alloc: Global, row: &Row, out: &mut String) -> Result<Node, Refusal> {
+pub(crate) fn record_of(alloc: Global, row: &Row) -> Result<Node, Refusal> {
     let counts = numbers_of(alloc, row.field(2).unwrap_or(""))?;
-    let tree = tree_of(alloc, row, out)?;
+    let tree = tree_of(alloc, row)?;
     Ok(resolve(alloc, &tree, counts.as_slice())?)
 }
 

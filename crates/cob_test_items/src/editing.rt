@@ -88,32 +88,10 @@ pub(crate) fn push_edited(
 ) -> Result<(), RowFault> {
     let picture = picture_of(alloc, row)?;
     let number = number_of_text(alloc, row, 1)?;
-    push_text_of(alloc, &picture, blank, &number, out)
-}
-
-/// Writes the text that a picture gives this number, and what is read back from there.
-fn push_text_of(
-    alloc: Global,
-    picture: &Picture,
-    blank: bool,
-    number: &Number,
-    out: &mut String,
-) -> Result<(), RowFault> {
-    let bytes = edited(alloc, picture, blank, number)?;
+    let bytes = edited(alloc, &picture, blank, &number)?;
     push_characters(out, bytes.as_slice())?;
-    push_again(picture, blank, number, bytes.as_slice(), out)
-}
-
-/// Writes whether the number that a picture keeps of another is read back from its text.
-fn push_again(
-    picture: &Picture,
-    blank: bool,
-    number: &Number,
-    bytes: &[u8],
-    out: &mut String,
-) -> Result<(), RowFault> {
-    let read = number_shown(picture, blank, bytes)?;
-    Ok(push_back(out, &read, &kept(picture, number))?)
+    let read = number_shown(&picture, blank, bytes.as_slice())?;
+    Ok(push_back(out, &read, &kept(&picture, &number))?)
 }
 
 /// Writes the number whose text stands in a row.

@@ -64,26 +64,11 @@ fn stored(alloc: Global, item: &Item, number: &Number) -> Result<Vec<u8>, RowFau
 /// The number that the bytes of an item represent, and the bytes that are stored for it.
 pub(crate) fn push_item(alloc: Global, row: &Row, out: &mut String) -> Result<(), RowFault> {
     let item = item_of(alloc, row)?;
-    push_held(alloc, &item, row, out)
-}
-
-/// The number that the bytes of a row represent in an item, and the bytes that are stored for it.
-fn push_held(alloc: Global, item: &Item, row: &Row, out: &mut String) -> Result<(), RowFault> {
     let bytes = row.bytes(alloc, 3)?;
-    match number_in(item, bytes.as_slice())? {
-        Some(number) => push_both(alloc, item, &number, out),
-        None => Ok(out.push_str("no number")?),
-    }
-}
-
-/// A number, and the bytes that are stored in an item for it.
-fn push_both(
-    alloc: Global,
-    item: &Item,
-    number: &Number,
-    out: &mut String,
-) -> Result<(), RowFault> {
-    push_number(out, number)?;
+    let Some(number) = number_in(&item, bytes.as_slice())? else {
+        return Ok(out.push_str("no number")?);
+    };
+    push_number(out, &number)?;
     out.push_str(", stored as ")?;
-    Ok(push_digits(out, stored(alloc, item, number)?.as_slice())?)
+    Ok(push_digits(out, stored(alloc, &item, &number)?.as_slice())?)
 }

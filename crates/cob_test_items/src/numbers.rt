@@ -50,50 +50,36 @@ pub(crate) fn push_number(out: &mut String, number: &Number) -> Result<(), Alloc
     push_text(out, text.as_slice())
 }
 
-/// Writes digits.
-pub(crate) fn push_plain(out: &mut String, digits: &Digits) -> Result<(), AllocError> {
-    for digit in digits.as_slice() {
-        write!(out, "{digit}")?;
-    }
-    Ok(())
-}
-
 /// Writes the sign, the digits and the scale of a number.
 fn push_parts(out: &mut String, number: &Number) -> Result<(), AllocError> {
-    let sign = if number.negative() { "minus" } else { "plus" };
-    write!(out, "{sign} \"")?;
-    push_plain(out, number.digits())?;
+    out.push_str(if number.negative() { "minus" } else { "plus" })?;
+    out.push_str(" \"")?;
+    for digit in number.digits().as_slice() {
+        write!(out, "{digit}")?;
+    }
     write!(out, "\" scale {}", number.scale())
+}
+
+/// The number that a text is, if it is one.
+fn read(text: &[u8]) -> Option<Number> {
+    Number::of_text(text)
 }
 
 /// The number of a field.
 pub(crate) fn number_of_text(alloc: Global, row: &Row, place: usize) -> Result<Number, RowFault> {
     let text = row.text(alloc, place)?;
-    match Number::of_text(text.as_slice()) {
-        Some(number) => Ok(number),
-        None => Err(RowFault::BadRow),
-    }
+    read(text.as_slice()).ok_or(RowFault::BadRow)
 }
 
 /// The parts of the number that a literal is, and its text.
 pub(crate) fn push_literal(alloc: Global, row: &Row, out: &mut String) -> Result<(), RowFault> {
     let text = row.quoted_text(alloc, 0)?;
-    Ok(push_literal_of(out, text.as_slice())?)
-}
-
-/// The parts of the number that a text is, and its text.
-fn push_literal_of(out: &mut String, text: &[u8]) -> Result<(), AllocError> {
-    match Number::of_text(text) {
-        Some(number) => push_whole(out, &number),
-        None => out.push_str("no literal"),
-    }
-}
-
-/// Writes the parts of a number, and its text.
-fn push_whole(out: &mut String, number: &Number) -> Result<(), AllocError> {
-    push_parts(out, number)?;
+    let Some(number) = read(text.as_slice()) else {
+        return Ok(out.push_str("no literal")?);
+    };
+    push_parts(out, &number)?;
     out.push_str(", printed ")?;
-    push_number(out, number)
+    Ok(push_number(out, &number)?)
 }
 
 /// The text of a number.
@@ -111,10 +97,9 @@ fn aligned(number: &Number, digits: u8, scale: i8, signed: bool) -> Result<Numbe
 
 /// The parts of a number that is aligned to a receiver.
 pub(crate) fn push_aligned(row: &Row, out: &mut String) -> Result<(), RowFault> {
-    let digits = row.number(3)?;
-    let scale = row.number(4)?;
+    let number = number_of(row)?;
     let signed = is_first(row, 5, "signed", "unsigned")?;
-    let aligned = aligned(&number_of(row)?, digits, scale, signed)?;
+    let aligned = aligned(&number, row.number(3)?, row.number(4)?, signed)?;
     Ok(push_parts(out, &aligned)?)
 }
 
@@ -132,11 +117,7 @@ fn is_same(digits: &Digits, other: &Digits) -> bool {
 pub(crate) fn push_compared(row: &Row, out: &mut String) -> Result<(), RowFault> {
     let digits = digits_at(row, 0)?;
     let other = digits_at(row, 1)?;
-    let first = if digits.is_zero() { "zero" } else { "not zero" };
-    let second = if is_same(&digits, &other) {
-        "the same"
-    } else {
-        "others"
-    };
-    Ok(write!(out, "{first}, {second}")?)
+    out.push_str(if digits.is_zero() { "zero" } else { "not zero" })?;
+    let is_same = is_same(&digits, &other);
+    Ok(out.push_str(if is_same { ", the same" } else { ", others" })?)
 }

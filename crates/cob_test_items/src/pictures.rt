@@ -1,6 +1,6 @@
 //! Pictures.
 
-use cob_picture::{Category, Picture, PositionRole, Run, Symbol};
+use cob_picture::{Category, Picture, PictureFault, PositionRole, Run, Symbol};
 use cob_test_rows::{Row, RowFault};
 use std::alloc::{AllocError, Global};
 use std::fmt::Write;
@@ -75,7 +75,6 @@ fn push_picture(out: &mut String, picture: &Picture) -> Result<(), AllocError> {
 
 /// Writes the symbols of a picture, each with how often it stands there.
 fn push_runs(out: &mut String, runs: &[Run]) -> Result<(), AllocError> {
-    out.push_str(", runs")?;
     for run in runs {
         let symbol = symbol_name(run.symbol);
         let count = run.count;
@@ -93,15 +92,20 @@ fn push_roles(out: &mut String, picture: &Picture) -> Result<(), RowFault> {
     for position in picture.positions().as_slice() {
         let symbol = symbol_name(position.symbol);
         let role = role_name(position.role);
-        let mark = if out.is_empty() { "" } else { ", " };
-        write!(out, "{mark}{symbol} {role}")?;
+        out.push_str(if out.is_empty() { "" } else { ", " })?;
+        write!(out, "{symbol} {role}")?;
     }
     Ok(())
 }
 
+/// The picture of a text.
+fn picture_of_text(text: &[u8]) -> Result<Picture, PictureFault> {
+    Picture::read(text)
+}
+
 /// The picture of a text that is one.
 fn sure_picture(text: &[u8]) -> Result<Picture, RowFault> {
-    match Picture::read(text) {
+    match picture_of_text(text) {
         Ok(picture) => Ok(picture),
         Err(_) => Err(RowFault::BadRow),
     }
@@ -120,14 +124,9 @@ pub(crate) fn quoted_picture(alloc: Global, row: &Row) -> Result<Picture, RowFau
 /// What the picture of a row is, or its fault.
 pub(crate) fn push_read(alloc: Global, row: &Row, out: &mut String) -> Result<(), RowFault> {
     let text = row.quoted_text(alloc, 0)?;
-    Ok(push_text_read(out, text.as_slice())?)
-}
-
-/// What the picture of a text is, or its fault.
-fn push_text_read(out: &mut String, text: &[u8]) -> Result<(), AllocError> {
-    match Picture::read(text) {
-        Ok(picture) => push_picture(out, &picture),
-        Err(fault) => write!(out, "{fault} {fault:?}"),
+    match picture_of_text(text.as_slice()) {
+        Ok(picture) => Ok(push_picture(out, &picture)?),
+        Err(fault) => Ok(write!(out, "{fault} {fault:?}")?),
     }
 }
 
@@ -139,7 +138,9 @@ pub(crate) fn push_positions(alloc: Global, row: &Row, out: &mut String) -> Resu
 
 /// What a copy of the picture of a row is, and its runs.
 pub(crate) fn push_copy(alloc: Global, row: &Row, out: &mut String) -> Result<(), RowFault> {
-    let same = quoted_picture(alloc, row)?.clone();
+    let picture = quoted_picture(alloc, row)?;
+    let same = picture.clone();
     push_picture(out, &same)?;
+    out.push_str(", runs")?;
     Ok(push_runs(out, same.runs())?)
 }

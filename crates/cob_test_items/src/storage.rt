@@ -2,7 +2,7 @@
 
 ghost use Rattle.std.specs.Prelude.{◌≡◌, length, IsTrue, IsSomeAnd};
 
-use crate::numbers::{number_of_text, push_number, push_plain};
+use crate::numbers::{number_of_text, push_number};
 use crate::pictures::quoted_picture;
 use cob_codec::{Binary, Packed, Separate, Shape, Storage, Zoned, read_digits};
 use cob_decimal::{Digits, Number};
@@ -56,8 +56,8 @@ pub(crate) fn push_shape(alloc: Global, row: &Row, out: &mut String) -> Result<(
     let shape = shape_by(&picture, leads(row.field(1)?)?)?;
     let sign = if shape.signed { "signed" } else { "unsigned" };
     let place = if shape.leading { "leading" } else { "trailing" };
-    let Shape { digits, scale, .. } = shape;
-    Ok(write!(out, "digits {digits}, scale {scale}, {sign}, {place}")?)
+    write!(out, "digits {}, scale {}, ", shape.digits, shape.scale)?;
+    Ok(write!(out, "{sign}, {place}")?)
 }
 
 /// Writes a number, or that there is none.
@@ -123,13 +123,6 @@ fn stored_and_read<S: Storage>(shape: &Shape, number: &Number, bytes: &mut [u8])
     S::read(shape, bytes)
 }
 
-/// Writes bytes, and the number that they represent.
-fn push_both(out: &mut String, bytes: &[u8], number: &Option<Number>) -> Result<(), AllocError> {
-    push_digits(out, bytes)?;
-    out.push_str(", read back as ")?;
-    push_found(out, number)
-}
-
 /// Writes the bytes that are stored for a number, and the number that they represent.
 fn push_form<S: Storage>(
     alloc: Global,
@@ -142,7 +135,9 @@ fn push_form<S: Storage>(
     let aligned = number.align(shape.digits, shape.scale, shape.signed);
     let mut bytes = vec![in alloc; 0x55u8; usize::from(S::length(shape))]?;
     let read = stored_and_read::<S>(shape, &aligned, &mut bytes);
-    Ok(push_both(out, bytes.as_slice(), &read)?)
+    push_digits(out, bytes.as_slice())?;
+    out.push_str(", read back as ")?;
+    Ok(push_found(out, &read)?)
 }
 
 /// Writes the bytes that an item of this kind has for a number, and the number that they represent.
@@ -214,7 +209,9 @@ pub(crate) fn push_any_zones(alloc: Global, row: &Row, out: &mut String) -> Resu
 /// Writes digits between quotes.
 fn push_quoted(out: &mut String, digits: &Digits) -> Result<(), AllocError> {
     out.push('"')?;
-    push_plain(out, digits)?;
+    for digit in digits.as_slice() {
+        write!(out, "{digit}")?;
+    }
     out.push('"')
 }
 

@@ -5,14 +5,14 @@ ghost use Rattle.cob_copybook_tree.specs.Items.{IsStorable};
 ghost use Rattle.cob_move_receive.specs.Sent.{Occupies};
 
 use crate::draws::Draws;
-use crate::fault::Fault;
-use crate::items::{characters_item, display, item_of};
 use crate::moves::UNWRITTEN;
-use crate::senders::front;
-use crate::tally::{Tally, Trials};
+use crate::tally::Tally;
+use cob_copybook_entry::Usage;
 use cob_copybook_tree::{Figurative, Item, Kind, Value, is_number, is_number_item};
 use cob_move_steps::{CharactersStep, ConstantStep};
+use cob_picture::Picture;
 use std::alloc::{AllocError, Global};
+use std::fmt::Write;
 
 /// No item of characters here is longer.
 pub const LONGEST: u32 = 40;
@@ -30,15 +30,43 @@ pub enum CharacterMove {
     ToGroup,
 }
 
-/// So many characters.
-fn characters(alloc: Global, count: u32, justified: bool) -> Result<Kind, Fault> {
-    Ok(Kind::Item(characters_item(alloc, count, justified)?))
+/// An item of this picture.
+fn item_of(picture: &str, justified: bool) -> Option<Item> {
+    match Picture::read(picture.as_bytes()) {
+        Ok(picture) => Some(Item {
+            picture,
+            usage: Usage::Display,
+            sign: None,
+            justified,
+            blank: false,
+        }),
+        Err(_) => None,
+    }
+}
+
+/// An item of so many characters.
+pub fn characters_item(
+    alloc: Global,
+    count: u32,
+    justified: bool,
+) -> Result<Option<Item>, AllocError> {
+    let mut picture = String::new(alloc);
+    write!(picture, "X({count})")?;
+    Ok(item_of(picture.as_str(), justified))
+}
+
+/// The same as what may be a group.
+fn characters(alloc: Global, count: u32, justified: bool) -> Result<Option<Kind>, AllocError> {
+    match characters_item(alloc, count, justified)? {
+        Some(item) => Ok(Some(Kind::Item(item))),
+        None => Ok(None),
+    }
 }
 
 /// What sends so many characters.
-fn sender_of(alloc: Global, which: CharacterMove, count: u32) -> Result<Kind, Fault> {
+fn sender_of(alloc: Global, which: CharacterMove, count: u32) -> Result<Option<Kind>, AllocError> {
     match which {
-        CharacterMove::FromGroup => Ok(Kind::Group),
+        CharacterMove::FromGroup => Ok(Some(Kind::Group)),
         CharacterMove::Plain | CharacterMove::Justified | CharacterMove::ToGroup => {
             characters(alloc, count, false)
         }
@@ -46,16 +74,20 @@ fn sender_of(alloc: Global, which: CharacterMove, count: u32) -> Result<Kind, Fa
 }
 
 /// What receives so many.
-fn receiver_of(alloc: Global, which: CharacterMove, count: u32) -> Result<Kind, Fault> {
+fn receiver_of(
+    alloc: Global,
+    which: CharacterMove,
+    count: u32,
+) -> Result<Option<Kind>, AllocError> {
     match which {
-        CharacterMove::ToGroup => Ok(Kind::Group),
+        CharacterMove::ToGroup => Ok(Some(Kind::Group)),
         CharacterMove::Plain => characters(alloc, count, false),
         CharacterMove::Justified | CharacterMove::FromGroup => characters(alloc, count, true),
     }
 }
 
-/// Moves the characters at the end of a record to so many by a step, and counts what came of it.
-fn run_step(step: &CharactersStep, record: &[u8], size: usize, tally: &mut Tally) {
+/// Moves the characters at the end of a record to a receiver, and counts what came of it.
+fn tally_move(step: &CharactersStep, record: &[u8], size: usize, tally: &mut Tally) {
     if size > 40 || record.len() < step.sent {
         return;
     }
@@ -64,84 +96,31 @@ fn run_step(step: &CharactersStep, record: &[u8], size: usize, tally: &mut Tally
     tally.count(true, &bytes[..size]);
 }
 
-/// The same where there is a step.
-fn tally_move(
-    sender: &Kind,
-    sent: usize,
-    receiver: &Kind,
-    record: &[u8],
-    size: usize,
-    tally: &mut Tally,
-) {
-    match CharactersStep::prepare(sender, sent, receiver) {
-        Some(step) => run_step(&step, record, size, tally),
-        None => tally.count_none(),
-    }
-}
-
-/// Moves what a record ends with to so many characters.
-fn try_to(
-    alloc: Global,
-    which: CharacterMove,
-    sender: &Kind,
-    sent: u32,
-    record: &[u8],
-    received: u32,
-    tally: &mut Tally,
-) -> Result<(), Fault> {
-    let receiver = receiver_of(alloc, which, received)?;
-    tally_move(
-        sender,
-        sent as usize,
-        &receiver,
-        record,
-        received as usize,
-        tally,
-    );
-    Ok(())
-}
-
-/// The bytes of a record up to those of so many characters at its end.
-fn drawn_characters(alloc: Global, count: u32, draws: &mut Draws) -> Result<Vec<u8>, AllocError> {
-    let mut record = front(alloc, draws)?;
-    for _ in 0..count {
-        record.push(draws.byte())?;
-    }
-    Ok(record)
-}
-
 /// Tries a move of so many characters to a receiver of so many.
 fn try_move(
     alloc: Global,
     which: CharacterMove,
-    sender: &Kind,
     sent: u32,
     received: u32,
-    trials: &mut Trials,
-) -> Result<(), Fault> {
-    let record = drawn_characters(alloc, sent, &mut trials.draws)?;
-    try_to(
-        alloc,
-        which,
-        sender,
-        sent,
-        &record,
-        received,
-        &mut trials.tally,
-    )
-}
-
-/// Tries the moves of so many characters to receivers of each length.
-fn try_sender(
-    alloc: Global,
-    which: CharacterMove,
-    sent: u32,
-    trials: &mut Trials,
-) -> Result<(), Fault> {
+    draws: &mut Draws,
+    tally: &mut Tally,
+) -> Result<(), AllocError> {
     let sender = sender_of(alloc, which, sent)?;
-    for received in 1..LONGEST + 1 {
-        try_move(alloc, which, &sender, sent, received, trials)?;
+    let receiver = receiver_of(alloc, which, received)?;
+    let mut record = Vec::new(alloc);
+    for place in 0..draws.below(24) {
+        record.push(draws.byte())?;
     }
+    for place in 0..sent {
+        record.push(draws.byte())?;
+    }
+    if let (Some(sender), Some(receiver)) = (&sender, &receiver) {
+        if let Some(step) = CharactersStep::prepare(sender, sent as usize, receiver) {
+            tally_move(&step, record.as_slice(), received as usize, tally);
+            return Ok(());
+        }
+    }
+    tally.count_none();
     Ok(())
 }
 
@@ -149,12 +128,15 @@ fn try_sender(
 pub fn try_characters(
     alloc: Global,
     which: CharacterMove,
-    trials: &mut Trials,
-) -> Result<(), Fault> {
+    draws: &mut Draws,
+) -> Result<Tally, AllocError> {
+    let mut tally = Tally::new();
     for sent in 1..LONGEST + 1 {
-        try_sender(alloc, which, sent, trials)?;
+        for received in 1..LONGEST + 1 {
+            try_move(alloc, which, sent, received, draws, &mut tally)?;
+        }
     }
-    Ok(())
+    Ok(tally)
 }
 
 /// Whether bytes can hold what an item describes.
@@ -178,47 +160,24 @@ fn has_bytes(kind: &Kind, length: usize) -> bool
     }
 }
 
-/// Writes a constant by a step, and counts what came of it.
-fn run_constant(alloc: Global, step: &ConstantStep, tally: &mut Tally) -> Result<(), Fault> {
-    let mut bytes = vec![in alloc; UNWRITTEN; step.bytes.len()]?;
-    step.run(&mut bytes);
-    tally.count(true, &bytes);
-    Ok(())
-}
-
-/// Writes a constant into so many bytes, if there is a step, and counts what came of it.
-fn prepare_constant(
-    alloc: Global,
-    value: &Value,
-    receiver: &Kind,
-    size: usize,
-    tally: &mut Tally,
-) -> Result<(), Fault>
-    requires { Occupies receiver.now size }
-{
-    match ConstantStep::prepare(alloc, value, receiver, size)? {
-        Some(step) => run_constant(alloc, &step, tally),
-        None => {
-            tally.count_none();
-            Ok(())
-        }
-    }
-}
-
-/// The same into bytes that may not be the receiver's.
+/// Writes a constant into so many bytes, and counts what came of it.
 fn tally_constant(
     alloc: Global,
     value: &Value,
     receiver: &Kind,
     size: usize,
     tally: &mut Tally,
-) -> Result<(), Fault> {
+) -> Result<(), AllocError> {
     if has_bytes(receiver, size) {
-        prepare_constant(alloc, value, receiver, size, tally)
-    } else {
-        tally.count_none();
-        Ok(())
+        if let Some(step) = ConstantStep::prepare(alloc, value, receiver, size)? {
+            let mut bytes = vec![in alloc; UNWRITTEN; step.bytes.len()]?;
+            step.run(bytes.as_mut_slice());
+            tally.count(true, bytes.as_slice());
+            return Ok(());
+        }
     }
+    tally.count_none();
+    Ok(())
 }
 
 /// The figurative constants.
@@ -232,47 +191,27 @@ pub fn figuratives() -> [(&'static str, Figurative); 5] {
     ]
 }
 
-/// Tries the move of a constant to so many characters.
-fn try_constant(
-    alloc: Global,
-    value: &Value,
-    which: CharacterMove,
-    count: u32,
-    tally: &mut Tally,
-) -> Result<(), Fault> {
-    let receiver = receiver_of(alloc, which, count)?;
-    tally_constant(alloc, value, &receiver, count as usize, tally)
-}
-
-/// Tries the move of a constant to a number or an edited one.
-fn try_constant_number(
-    alloc: Global,
-    value: &Value,
-    picture: &str,
-    tally: &mut Tally,
-) -> Result<(), Fault> {
-    let item = item_of(picture, display(false, false))?;
-    let size = usize::from(item.size());
-    tally_constant(alloc, value, &Kind::Item(item), size, tally)
-}
-
-/// Tries the moves of a constant.
-fn try_value(alloc: Global, value: &Value, tally: &mut Tally) -> Result<(), Fault> {
-    for count in 1..LONGEST + 1 {
-        try_constant(alloc, value, CharacterMove::Plain, count, tally)?;
-        try_constant(alloc, value, CharacterMove::Justified, count, tally)?;
-        try_constant(alloc, value, CharacterMove::ToGroup, count, tally)?;
-    }
-    try_constant_number(alloc, value, "S9(5)V99", tally)?;
-    try_constant_number(alloc, value, "$$,$$9.99CR", tally)
-}
-
 /// Tries the moves of a figurative constant: to characters from the left and from the right and to a group, of each length; to a number and to
 /// an edited one.
-pub fn try_figurative(
-    alloc: Global,
-    figurative: Figurative,
-    tally: &mut Tally,
-) -> Result<(), Fault> {
-    try_value(alloc, &Value::Figurative(figurative), tally)
+pub fn try_figurative(alloc: Global, figurative: Figurative) -> Result<Tally, AllocError> {
+    let value = Value::Figurative(figurative);
+    let mut tally = Tally::new();
+    for count in 1..LONGEST + 1 {
+        for which in [
+            CharacterMove::Plain,
+            CharacterMove::Justified,
+            CharacterMove::ToGroup,
+        ] {
+            if let Some(receiver) = receiver_of(alloc, which, count)? {
+                tally_constant(alloc, &value, &receiver, count as usize, &mut tally)?;
+            }
+        }
+    }
+    for picture in ["S9(5)V99", "$$,$$9.99CR"] {
+        if let Some(item) = item_of(picture, false) {
+            let size = usize::from(item.size());
+            tally_constant(alloc, &value, &Kind::Item(item), size, &mut tally)?;
+        }
+    }
+    Ok(tally)
 }

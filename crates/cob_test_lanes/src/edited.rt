@@ -2,14 +2,16 @@
 
 ghost use Rattle.std.specs.Prelude.{◌<◌, ◌≤◌};
 
-use crate::fault::Fault;
-use crate::items::{display, drawn_item, item_of};
+use crate::draws::Draws;
 use crate::kinds::{ItemKind, all_kinds};
-use crate::moves::Steps;
-use crate::numbers::{TRIES, try_items};
-use crate::tally::Trials;
+use crate::moves::tally_move;
+use crate::numbers::{TRIES, drawn_item};
+use crate::senders::drawn_record;
+use crate::tally::Tally;
+use cob_copybook_entry::Usage;
 use cob_copybook_tree::Item;
-use std::alloc::Global;
+use cob_picture::Picture;
+use std::alloc::{AllocError, Global};
 
 /// A picture of edited items, and whether BLANK WHEN ZERO stands with it.
 #[derive(Clone, Copy)]
@@ -98,42 +100,41 @@ pub fn longest_kinds() -> [EditedKind; 10] {
     ]
 }
 
-impl EditedKind {
-    /// An item of this kind.
-    pub fn item(&self) -> Result<Item, Fault> {
-        item_of(self.picture, display(false, self.blank))
+/// An item of a kind.
+pub fn item_of(kind: &EditedKind) -> Option<Item> {
+    match Picture::read(kind.picture.as_bytes()) {
+        Ok(picture) => Some(Item {
+            picture,
+            usage: Usage::Display,
+            sign: None,
+            justified: false,
+            blank: kind.blank,
+        }),
+        Err(_) => None,
     }
 }
 
 /// Tries a move of an item of so many digits.
 fn try_move(
     alloc: Global,
-    steps: Steps,
     from: &ItemKind,
     receiver: &Item,
     sent: u32,
-    trials: &mut Trials,
-) -> Result<(), Fault>
+    draws: &mut Draws,
+    tally: &mut Tally,
+) -> Result<(), AllocError>
     requires some { 0 < sent }
     requires most { sent ≤ 31 }
 {
-    let sender = drawn_item(alloc, from, sent, &mut trials.draws)?;
-    try_items(alloc, steps, from, sent, &sender, receiver, trials)
-}
-
-/// Tries the moves of items of a kind to an edited item.
-fn try_kind(
-    alloc: Global,
-    from: &ItemKind,
-    receiver: &Item,
-    trials: &mut Trials,
-) -> Result<(), Fault> {
-    for sent in 1..from.most_digits() + 1 {
-        for _ in 0..TRIES {
-            try_move(alloc, Steps::Fitted, from, receiver, sent, trials)?;
+    let sender = drawn_item(alloc, from, sent, draws)?;
+    let record = drawn_record(alloc, from, sent as usize, draws)?;
+    match &sender {
+        Some(sender) => tally_move(alloc, sender, receiver, record.as_slice(), tally),
+        None => {
+            tally.count_none();
+            Ok(())
         }
     }
-    Ok(())
 }
 
 /// Tries the moves of items of a kind to edited items of a kind.
@@ -141,34 +142,32 @@ pub fn try_edited(
     alloc: Global,
     from: &ItemKind,
     to: &EditedKind,
-    trials: &mut Trials,
-) -> Result<(), Fault> {
-    let receiver = to.item()?;
-    try_kind(alloc, from, &receiver, trials)
-}
-
-/// Tries the moves of items of all kinds, of each number of digits, to an edited item.
-fn try_all_kinds(
-    alloc: Global,
-    steps: Steps,
-    receiver: &Item,
-    trials: &mut Trials,
-) -> Result<(), Fault> {
-    for from in &all_kinds() {
-        for sent in 1..steps.most_wide_digits(from) + 1 {
-            try_move(alloc, steps, from, receiver, sent, trials)?;
+    draws: &mut Draws,
+) -> Result<Tally, AllocError> {
+    let mut tally = Tally::new();
+    if let Some(receiver) = item_of(to) {
+        for sent in 1..from.most_digits() + 1 {
+            for _ in 0..TRIES {
+                try_move(alloc, from, &receiver, sent, draws, &mut tally)?;
+            }
         }
     }
-    Ok(())
+    Ok(tally)
 }
 
-/// Tries the moves of items of all kinds, of each number of digits, to edited items of a kind.
+/// Tries the moves of items of all kinds to edited items of a kind; packed ones have up to thirty-one digits.
 pub fn try_all_edited(
     alloc: Global,
-    steps: Steps,
     to: &EditedKind,
-    trials: &mut Trials,
-) -> Result<(), Fault> {
-    let receiver = to.item()?;
-    try_all_kinds(alloc, steps, &receiver, trials)
+    draws: &mut Draws,
+) -> Result<Tally, AllocError> {
+    let mut tally = Tally::new();
+    if let Some(receiver) = item_of(to) {
+        for from in &all_kinds() {
+            for sent in 1..from.most_wide_digits() + 1 {
+                try_move(alloc, from, &receiver, sent, draws, &mut tally)?;
+            }
+        }
+    }
+    Ok(tally)
 }

@@ -16,19 +16,6 @@ pub struct ItemKind {
     pub sign: Option<Sign>,
 }
 
-/// Two kinds of items, and how many digits an item of each has.
-#[derive(Clone, Copy)]
-pub struct Pair<'a> {
-    pub from: &'a ItemKind,
-    pub sent: u32,
-    pub to: &'a ItemKind,
-    pub received: u32,
-    pub ghost some_sent: { 0 < sent },
-    pub ghost most_sent: { sent ≤ 31 },
-    pub ghost some_received: { 0 < received },
-    pub ghost most_received: { received ≤ 31 },
-}
-
 /// A zoned item or one with a separate sign.
 fn display(name: &'static str, signed: bool, leading: bool, separate: bool) -> ItemKind {
     ItemKind {
@@ -53,6 +40,19 @@ fn packed(name: &'static str, signed: bool) -> ItemKind {
     }
 }
 
+/// The kinds, each once.
+pub fn kinds() -> [ItemKind; 7] {
+    [
+        display("zoned", false, false, false),
+        display("zoned trailing", true, false, false),
+        display("zoned leading", true, true, false),
+        display("separate trailing", true, false, true),
+        display("separate leading", true, true, true),
+        packed("packed", false),
+        packed("packed signed", true),
+    ]
+}
+
 /// A binary item.
 fn binary(name: &'static str, signed: bool) -> ItemKind {
     ItemKind {
@@ -63,21 +63,17 @@ fn binary(name: &'static str, signed: bool) -> ItemKind {
     }
 }
 
-/// Zoned items with the sign in their last byte.
-pub fn zoned_trailing() -> ItemKind {
-    display("zoned trailing", true, false, false)
-}
-
-/// All kinds, each once, the binary ones last.
+/// All kinds, the binary ones last.
 pub fn all_kinds() -> [ItemKind; 9] {
+    let [zoned, trailing, leading, behind, before, plain, signed] = kinds();
     [
-        display("zoned", false, false, false),
-        zoned_trailing(),
-        display("zoned leading", true, true, false),
-        display("separate trailing", true, false, true),
-        display("separate leading", true, true, true),
-        packed("packed", false),
-        packed("packed signed", true),
+        zoned,
+        trailing,
+        leading,
+        behind,
+        before,
+        plain,
+        signed,
         binary("binary", false),
         binary("binary signed", true),
     ]

@@ -2,64 +2,55 @@
 
 ghost use Rattle.std.specs.Prelude.{◌<◌, ◌≤◌};
 
-use crate::fault::Fault;
-use crate::items::{characters_item, drawn_item, item_at};
-use crate::kinds::{ItemKind, Pair, edge_scales};
-use crate::moves::{Steps, tally_move};
+use crate::characters::characters_item;
+use crate::draws::Draws;
+use crate::edited::{EditedKind, item_of};
+use crate::kinds::{ItemKind, all_kinds, edge_scales};
+use crate::moves::tally_long_move;
+use crate::numbers::{drawn_item, item_at};
 use crate::senders::{SIGN_CODES, drawn_record, signed_record};
-use crate::tally::Trials;
+use crate::tally::Tally;
 use crate::texts::drawn_text;
 use cob_copybook_tree::Item;
-use std::alloc::Global;
+use std::alloc::{AllocError, Global};
 
-/// No items have more digits.
+/// No characters are a number of more digits.
 const MOST: u32 = 31;
 
-/// Moves what a record ends with to an item of a kind, of so many digits.
+/// Moves what a record ends with to an item.
+fn tally_pair(
+    alloc: Global,
+    sender: &Option<Item>,
+    receiver: &Option<Item>,
+    record: &[u8],
+    tally: &mut Tally,
+) -> Result<(), AllocError> {
+    match (sender, receiver) {
+        (Some(sender), Some(receiver)) => {
+            tally_long_move(alloc, sender, receiver, record, tally)
+        }
+        _ => {
+            tally.count_none();
+            Ok(())
+        }
+    }
+}
+
+/// Moves it to an item of a kind, of so many digits.
 fn try_to(
     alloc: Global,
-    sender: &Item,
+    sender: &Option<Item>,
     record: &[u8],
     to: &ItemKind,
     received: u32,
-    trials: &mut Trials,
-) -> Result<(), Fault>
+    draws: &mut Draws,
+    tally: &mut Tally,
+) -> Result<(), AllocError>
     requires some { 0 < received }
     requires most { received ≤ 31 }
 {
-    let receiver = drawn_item(alloc, to, received, &mut trials.draws)?;
-    tally_move(
-        alloc,
-        Steps::Long,
-        sender,
-        &receiver,
-        record,
-        &mut trials.tally,
-    )
-}
-
-/// Moves a number of a kind to an item of the other kind.
-fn try_number(
-    alloc: Global,
-    pair: &Pair<'_>,
-    sender: &Item,
-    trials: &mut Trials,
-) -> Result<(), Fault> {
-    let record = drawn_record(alloc, pair.from, pair.sent as usize, &mut trials.draws)?;
-    try_to(
-        alloc,
-        sender,
-        record.as_slice(),
-        pair.to,
-        pair.received,
-        trials,
-    )
-}
-
-/// Tries a move between items of two kinds and numbers of digits.
-fn try_move(alloc: Global, pair: &Pair<'_>, trials: &mut Trials) -> Result<(), Fault> {
-    let sender = drawn_item(alloc, pair.from, pair.sent, &mut trials.draws)?;
-    try_number(alloc, pair, &sender, trials)
+    let receiver = drawn_item(alloc, to, received, draws)?;
+    tally_pair(alloc, sender, &receiver, record, tally)
 }
 
 /// Tries the moves between items of two kinds, of each number of digits.
@@ -67,113 +58,114 @@ pub fn try_long_kinds(
     alloc: Global,
     from: &ItemKind,
     to: &ItemKind,
-    trials: &mut Trials,
-) -> Result<(), Fault> {
+    draws: &mut Draws,
+) -> Result<Tally, AllocError> {
+    let mut tally = Tally::new();
     for sent in 1..from.most_long_digits() + 1 {
         for received in 1..to.most_long_digits() + 1 {
-            let pair = Pair {
-                from,
-                sent,
+            let sender = drawn_item(alloc, from, sent, draws)?;
+            let record = drawn_record(alloc, from, sent as usize, draws)?;
+            try_to(
+                alloc,
+                &sender,
+                record.as_slice(),
                 to,
                 received,
-            };
-            try_move(alloc, &pair, trials)?;
+                draws,
+                &mut tally,
+            )?;
         }
     }
-    Ok(())
-}
-
-/// Tries a move of characters to an item of a kind, of so many digits.
-fn try_characters(
-    alloc: Global,
-    sender: &Item,
-    to: &ItemKind,
-    received: u32,
-    trials: &mut Trials,
-) -> Result<(), Fault>
-    requires some { 0 < received }
-    requires most { received ≤ 31 }
-{
-    let record = drawn_text(alloc, sender, &mut trials.draws)?;
-    try_to(alloc, sender, record.as_slice(), to, received, trials)
-}
-
-/// Tries the moves of an item of characters to items of a kind, of each number of digits.
-fn try_to_numbers(
-    alloc: Global,
-    sender: &Item,
-    to: &ItemKind,
-    trials: &mut Trials,
-) -> Result<(), Fault> {
-    for received in 1..to.most_long_digits() + 1 {
-        try_characters(alloc, sender, to, received, trials)?;
-    }
-    Ok(())
+    Ok(tally)
 }
 
 /// Tries the moves of characters, of each number, to items of a kind, of each number of digits.
-pub fn try_long_characters(alloc: Global, to: &ItemKind, trials: &mut Trials) -> Result<(), Fault> {
-    for sent in 1..Steps::Long.most_characters() + 1 {
-        let sender = characters_item(alloc, sent, false)?;
-        try_to_numbers(alloc, &sender, to, trials)?;
-    }
-    Ok(())
-}
-
-/// Tries the move of a number whose sign has this code.
-fn try_sign(
+pub fn try_long_characters(
     alloc: Global,
-    pair: &Pair<'_>,
-    code: u8,
-    sender: &Item,
-    receiver: &Item,
-    trials: &mut Trials,
-) -> Result<(), Fault> {
-    let record = signed_record(
-        alloc,
-        pair.from,
-        pair.sent as usize,
-        code,
-        &mut trials.draws,
-    )?;
-    tally_move(
-        alloc,
-        Steps::Long,
-        sender,
-        receiver,
-        record.as_slice(),
-        &mut trials.tally,
-    )
+    to: &ItemKind,
+    draws: &mut Draws,
+) -> Result<Tally, AllocError> {
+    let mut tally = Tally::new();
+    for sent in 1..MOST + 1 {
+        for received in 1..to.most_long_digits() + 1 {
+            let sender = characters_item(alloc, sent, false)?;
+            let record = match &sender {
+                Some(sender) => drawn_text(alloc, sender, draws)?,
+                None => Vec::new(alloc),
+            };
+            try_to(
+                alloc,
+                &sender,
+                record.as_slice(),
+                to,
+                received,
+                draws,
+                &mut tally,
+            )?;
+        }
+    }
+    Ok(tally)
 }
 
-/// Tries the moves of numbers with each sign, to an item at a scale.
+/// Tries the moves of items of all kinds, of each number of digits, to edited items of a kind.
+pub fn try_long_edited(
+    alloc: Global,
+    to: &EditedKind,
+    draws: &mut Draws,
+) -> Result<Tally, AllocError> {
+    let mut tally = Tally::new();
+    let Some(receiver) = item_of(to) else {
+        return Ok(tally);
+    };
+    for from in &all_kinds() {
+        for sent in 1..from.most_long_digits() + 1 {
+            let sender = drawn_item(alloc, from, sent, draws)?;
+            let record = drawn_record(alloc, from, sent as usize, draws)?;
+            match &sender {
+                Some(sender) => {
+                    tally_long_move(alloc, sender, &receiver, record.as_slice(), &mut tally)?;
+                }
+                None => tally.count_none(),
+            }
+        }
+    }
+    Ok(tally)
+}
+
+/// Tries the moves of characters, of each number, to edited items of a kind.
+pub fn try_long_numerals(
+    alloc: Global,
+    to: &EditedKind,
+    draws: &mut Draws,
+) -> Result<Tally, AllocError> {
+    let mut tally = Tally::new();
+    let receiver = item_of(to);
+    for sent in 1..MOST + 1 {
+        let sender = characters_item(alloc, sent, false)?;
+        let record = match &sender {
+            Some(sender) => drawn_text(alloc, sender, draws)?,
+            None => Vec::new(alloc),
+        };
+        tally_pair(alloc, &sender, &receiver, record.as_slice(), &mut tally)?;
+    }
+    Ok(tally)
+}
+
+/// Tries the moves of numbers with each sign, between items of so many digits at two scales.
 fn try_signs(
     alloc: Global,
-    pair: &Pair<'_>,
-    sender: &Item,
-    scale: i32,
-    trials: &mut Trials,
-) -> Result<(), Fault> {
-    let receiver = item_at(alloc, pair.to, pair.received, scale)?;
+    from: &ItemKind,
+    sent: u32,
+    sender: &Option<Item>,
+    receiver: &Option<Item>,
+    draws: &mut Draws,
+    tally: &mut Tally,
+) -> Result<(), AllocError>
+    requires { sent ≤ 31 }
+{
     for code in SIGN_CODES {
-        try_sign(alloc, pair, code, sender, &receiver, trials)?;
-    }
-    Ok(())
-}
-
-/// Tries such moves from an item at a scale, to items at each scale at the edges.
-fn try_scale(alloc: Global, pair: &Pair<'_>, scale: i32, trials: &mut Trials) -> Result<(), Fault> {
-    let sender = item_at(alloc, pair.from, pair.sent, scale)?;
-    for other in edge_scales(pair.received) {
-        try_signs(alloc, pair, &sender, other, trials)?;
-    }
-    Ok(())
-}
-
-/// Tries such moves from items at each scale at the edges.
-fn try_scales(alloc: Global, pair: &Pair<'_>, trials: &mut Trials) -> Result<(), Fault> {
-    for scale in edge_scales(pair.sent) {
-        try_scale(alloc, pair, scale, trials)?;
+        let record = signed_record(alloc, from, sent as usize, code, draws)?;
+        tally_pair(alloc, sender, receiver, record.as_slice(), tally)?;
     }
     Ok(())
 }
@@ -184,16 +176,19 @@ pub fn try_long_edges(
     alloc: Global,
     from: &ItemKind,
     to: &ItemKind,
-    trials: &mut Trials,
-) -> Result<(), Fault> {
+    draws: &mut Draws,
+) -> Result<Tally, AllocError> {
+    let mut tally = Tally::new();
     for digits in 1..MOST + 1 {
-        let pair = Pair {
-            from,
-            sent: from.long_digits(digits),
-            to,
-            received: to.long_digits(digits),
-        };
-        try_scales(alloc, &pair, trials)?;
+        let sent = from.long_digits(digits);
+        let received = to.long_digits(digits);
+        for scale in edge_scales(sent) {
+            let sender = item_at(alloc, from, sent, scale)?;
+            for other in edge_scales(received) {
+                let receiver = item_at(alloc, to, received, other)?;
+                try_signs(alloc, from, sent, &sender, &receiver, draws, &mut tally)?;
+            }
+        }
     }
-    Ok(())
+    Ok(tally)
 }

@@ -14,72 +14,264 @@ mod characters;
 mod converted;
 mod draws;
 mod edited;
-mod fault;
-mod items;
 mod kinds;
 mod long;
+mod long_senders;
 mod moves;
 mod near;
 mod numbers;
-mod printing;
 mod senders;
 mod shown;
 mod tally;
 mod texts;
 
-use crate::edited::{edited_kinds, long_kinds, longest_kinds};
-use crate::fault::Fault;
-use crate::moves::Steps;
-use crate::printing::{
-    Between, print_between, print_characters, print_constants, print_deedited, print_edited,
-    print_edited_numerals, print_long_edited, print_numerals, print_shown, print_wholly_edited,
+use crate::characters::{CharacterMove, figuratives, try_characters, try_figurative};
+use crate::converted::{
+    try_characters_to_edited, try_characters_to_numbers, try_edited_to_edited,
+    try_edited_to_numbers,
 };
-use crate::tally::Trials;
+use crate::draws::Draws;
+use crate::edited::{
+    EditedKind, edited_kinds, long_kinds, longest_kinds, try_all_edited, try_edited,
+};
+use crate::kinds::{all_kinds, kinds};
+use crate::long::{
+    try_long_characters, try_long_edges, try_long_edited, try_long_kinds, try_long_numerals,
+};
+use crate::long_senders::{try_long_near, try_long_shown, try_long_to_edited, try_long_to_numbers};
+use crate::near::try_near;
+use crate::numbers::{try_kinds, try_wide_kinds};
+use crate::shown::try_shown;
+use crate::tally::Tally;
 use std::io;
 
-/// Moves by the steps that are made for the items.
-fn print_fitted(rt: HostRuntime, trials: &mut Trials) -> Result<(), Fault> {
-    print_between(rt, Between::Decimal, trials)?;
-    print_edited(rt, trials)?;
-    print_characters(rt, trials)?;
-    print_constants(rt, trials)?;
-    print_between(rt, Between::Binary, trials)?;
-    print_between(rt, Between::Wide, trials)
+/// Prints what came of moves.
+fn print_tally(rt: HostRuntime, from: &str, to: &str, tally: &Tally) -> io::Result<()> {
+    let (moved, no_number, no_step, sum) = tally.parts();
+    println!(rt;
+        "{from} to {to}: {moved} moved, {no_number} no number, {no_step} no step, sum {sum}"
+    )
 }
 
-/// Numbers from and to texts, by the same.
-fn print_texts(rt: HostRuntime, trials: &mut Trials) -> Result<(), Fault> {
-    print_wholly_edited(rt, &long_kinds(), trials)?;
-    print_numerals(rt, Steps::Fitted, trials)?;
-    print_edited_numerals(rt, &edited_kinds(), trials)?;
-    print_edited_numerals(rt, &long_kinds(), trials)?;
-    print_deedited(rt, Steps::Fitted, &edited_kinds(), trials)?;
-    print_deedited(rt, Steps::Fitted, &long_kinds(), trials)?;
-    print_shown(rt, Steps::Fitted, trials)
+/// Numbers.
+fn print_numbers(rt: HostRuntime, draws: &mut Draws) -> io::Result<()> {
+    let kinds = kinds();
+    for from in &kinds {
+        for to in &kinds {
+            let tally = try_kinds(rt.alloc(), from, to, draws)?;
+            print_tally(rt, from.name, to.name, &tally)?;
+        }
+    }
+    Ok(())
 }
 
-/// Numbers and characters of any number of digits.
-fn print_long(rt: HostRuntime, trials: &mut Trials) -> Result<(), Fault> {
-    print_between(rt, Between::Long, trials)?;
-    print_numerals(rt, Steps::Long, trials)?;
-    print_long_edited(rt, &edited_kinds(), trials)?;
-    print_long_edited(rt, &long_kinds(), trials)?;
-    print_long_edited(rt, &longest_kinds(), trials)?;
-    print_between(rt, Between::Edges, trials)?;
-    print_deedited(rt, Steps::Long, &edited_kinds(), trials)?;
-    print_deedited(rt, Steps::Long, &long_kinds(), trials)?;
-    print_deedited(rt, Steps::Long, &longest_kinds(), trials)?;
-    print_shown(rt, Steps::Long, trials)
+/// Numbers from and to binary items.
+fn print_binary(rt: HostRuntime, draws: &mut Draws) -> io::Result<()> {
+    let kinds = all_kinds();
+    for from in &kinds {
+        for to in &kinds {
+            if from.is_binary() || to.is_binary() {
+                let tally = try_kinds(rt.alloc(), from, to, draws)?;
+                print_tally(rt, from.name, to.name, &tally)?;
+            }
+        }
+    }
+    Ok(())
 }
 
-/// All of it, in this order.
-fn print_all(rt: HostRuntime) -> Result<(), Fault> {
-    let mut trials = Trials::new(1985);
-    print_fitted(rt, &mut trials)?;
-    print_texts(rt, &mut trials)?;
-    print_long(rt, &mut trials)
+/// Numbers from and to packed items of more than sixteen digits.
+fn print_wide(rt: HostRuntime, draws: &mut Draws) -> io::Result<()> {
+    let kinds = kinds();
+    for from in &kinds {
+        for to in &kinds {
+            if from.is_packed() || to.is_packed() {
+                let tally = try_wide_kinds(rt.alloc(), from, to, draws)?;
+                print_tally(rt, from.name, to.name, &tally)?;
+            }
+        }
+    }
+    Ok(())
+}
+
+/// Edited numbers.
+fn print_edited(rt: HostRuntime, draws: &mut Draws) -> io::Result<()> {
+    let kinds = all_kinds();
+    for from in &kinds {
+        for to in &edited_kinds() {
+            let tally = try_edited(rt.alloc(), from, to, draws)?;
+            print_tally(rt, from.name, to.picture, &tally)?;
+        }
+    }
+    Ok(())
+}
+
+/// Characters.
+fn print_characters(rt: HostRuntime, draws: &mut Draws) -> io::Result<()> {
+    for (from, to, which) in [
+        ("characters", "characters", CharacterMove::Plain),
+        ("characters", "JUSTIFIED", CharacterMove::Justified),
+        ("group", "JUSTIFIED", CharacterMove::FromGroup),
+        ("characters", "group", CharacterMove::ToGroup),
+    ] {
+        let tally = try_characters(rt.alloc(), which, draws)?;
+        print_tally(rt, from, to, &tally)?;
+    }
+    Ok(())
+}
+
+/// Constants.
+fn print_constants(rt: HostRuntime) -> io::Result<()> {
+    for (name, figurative) in figuratives() {
+        let tally = try_figurative(rt.alloc(), figurative)?;
+        print_tally(rt, name, "all", &tally)?;
+    }
+    Ok(())
+}
+
+/// Numbers edited in more than sixteen bytes.
+fn print_long(rt: HostRuntime, draws: &mut Draws) -> io::Result<()> {
+    for to in &long_kinds() {
+        let tally = try_all_edited(rt.alloc(), to, draws)?;
+        print_tally(rt, "numbers", to.picture, &tally)?;
+    }
+    Ok(())
+}
+
+/// Characters that are numbers.
+fn print_numerals(rt: HostRuntime, draws: &mut Draws) -> io::Result<()> {
+    for to in &all_kinds() {
+        let tally = try_characters_to_numbers(rt.alloc(), to, draws)?;
+        print_tally(rt, "characters", to.name, &tally)?;
+    }
+    Ok(())
+}
+
+/// The same, edited.
+fn print_edited_numerals(
+    rt: HostRuntime,
+    kinds: &[EditedKind],
+    draws: &mut Draws,
+) -> io::Result<()> {
+    for to in kinds {
+        let tally = try_characters_to_edited(rt.alloc(), to, draws)?;
+        print_tally(rt, "characters", to.picture, &tally)?;
+    }
+    Ok(())
+}
+
+/// Numbers that were edited.
+fn print_deedited(rt: HostRuntime, kinds: &[EditedKind], draws: &mut Draws) -> io::Result<()> {
+    for from in kinds {
+        let tally = try_edited_to_numbers(rt.alloc(), from, draws)?;
+        print_tally(rt, from.picture, "numbers", &tally)?;
+        let tally = try_edited_to_edited(rt.alloc(), from, draws)?;
+        print_tally(rt, from.picture, "edited", &tally)?;
+        let tally = try_near(rt.alloc(), from, draws)?;
+        print_tally(rt, from.picture, "zoned trailing, one byte another", &tally)?;
+    }
+    Ok(())
+}
+
+/// Numbers as characters.
+fn print_shown(rt: HostRuntime, draws: &mut Draws) -> io::Result<()> {
+    for from in &all_kinds() {
+        let tally = try_shown(rt.alloc(), from, false, draws)?;
+        print_tally(rt, from.name, "characters", &tally)?;
+        let tally = try_shown(rt.alloc(), from, true, draws)?;
+        print_tally(rt, from.name, "JUSTIFIED", &tally)?;
+    }
+    Ok(())
+}
+
+/// Numbers from and to texts.
+fn print_texts(rt: HostRuntime, draws: &mut Draws) -> io::Result<()> {
+    print_long(rt, draws)?;
+    print_numerals(rt, draws)?;
+    print_edited_numerals(rt, &edited_kinds(), draws)?;
+    print_edited_numerals(rt, &long_kinds(), draws)?;
+    print_deedited(rt, &edited_kinds(), draws)?;
+    print_deedited(rt, &long_kinds(), draws)?;
+    print_shown(rt, draws)
+}
+
+/// Numbers and characters of any number of digits, edited.
+fn print_long_edited(rt: HostRuntime, kinds: &[EditedKind], draws: &mut Draws) -> io::Result<()> {
+    for to in kinds {
+        let tally = try_long_edited(rt.alloc(), to, draws)?;
+        print_tally(rt, "numbers", to.picture, &tally)?;
+        let tally = try_long_numerals(rt.alloc(), to, draws)?;
+        print_tally(rt, "characters", to.picture, &tally)?;
+    }
+    Ok(())
+}
+
+/// Numbers at the edges.
+fn print_edges(rt: HostRuntime, draws: &mut Draws) -> io::Result<()> {
+    let kinds = all_kinds();
+    for from in &kinds {
+        for to in &kinds {
+            let tally = try_long_edges(rt.alloc(), from, to, draws)?;
+            print_tally(rt, from.name, to.name, &tally)?;
+        }
+    }
+    Ok(())
+}
+
+/// Numbers of any number of digits.
+fn print_long_numbers(rt: HostRuntime, draws: &mut Draws) -> io::Result<()> {
+    let kinds = all_kinds();
+    for from in &kinds {
+        for to in &kinds {
+            let tally = try_long_kinds(rt.alloc(), from, to, draws)?;
+            print_tally(rt, from.name, to.name, &tally)?;
+        }
+    }
+    for to in &kinds {
+        let tally = try_long_characters(rt.alloc(), to, draws)?;
+        print_tally(rt, "characters", to.name, &tally)?;
+    }
+    print_long_edited(rt, &edited_kinds(), draws)?;
+    print_long_edited(rt, &long_kinds(), draws)?;
+    print_long_edited(rt, &longest_kinds(), draws)?;
+    print_edges(rt, draws)
+}
+
+/// Edited items by steps of numbers of any number of digits.
+fn print_long_deedited(rt: HostRuntime, kinds: &[EditedKind], draws: &mut Draws) -> io::Result<()> {
+    for from in kinds {
+        let tally = try_long_to_numbers(rt.alloc(), from, draws)?;
+        print_tally(rt, from.picture, "numbers", &tally)?;
+        let tally = try_long_to_edited(rt.alloc(), from, draws)?;
+        print_tally(rt, from.picture, "edited", &tally)?;
+        let tally = try_long_near(rt.alloc(), from, draws)?;
+        print_tally(rt, from.picture, "zoned trailing, one byte another", &tally)?;
+    }
+    Ok(())
+}
+
+/// Numbers of any number of digits as characters.
+fn print_long_shown(rt: HostRuntime, draws: &mut Draws) -> io::Result<()> {
+    for from in &all_kinds() {
+        let tally = try_long_shown(rt.alloc(), from, false, draws)?;
+        print_tally(rt, from.name, "characters", &tally)?;
+        let tally = try_long_shown(rt.alloc(), from, true, draws)?;
+        print_tally(rt, from.name, "JUSTIFIED", &tally)?;
+    }
+    Ok(())
 }
 
 fn main(rt: HostRuntime) -> io::Result<()> {
-    Ok(print_all(rt)?)
+    let mut draws = Draws::new(1985);
+    print_numbers(rt, &mut draws)?;
+    print_edited(rt, &mut draws)?;
+    print_characters(rt, &mut draws)?;
+    print_constants(rt)?;
+    print_binary(rt, &mut draws)?;
+    print_wide(rt, &mut draws)?;
+    print_texts(rt, &mut draws)?;
+    print_long_numbers(rt, &mut draws)?;
+    print_long_deedited(rt, &edited_kinds(), &mut draws)?;
+    print_long_deedited(rt, &long_kinds(), &mut draws)?;
+    print_long_deedited(rt, &longest_kinds(), &mut draws)?;
+    print_long_shown(rt, &mut draws)
 }

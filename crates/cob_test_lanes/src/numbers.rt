@@ -2,64 +2,82 @@
 
 ghost use Rattle.std.specs.Prelude.{◌<◌, ◌≤◌};
 
-use crate::fault::Fault;
-use crate::items::drawn_item;
-use crate::kinds::{ItemKind, Pair};
-use crate::moves::{Steps, tally_move};
+use crate::draws::Draws;
+use crate::kinds::{ItemKind, drawn_scale, push_picture};
+use crate::moves::tally_move;
 use crate::senders::drawn_record;
-use crate::tally::Trials;
+use crate::tally::Tally;
 use cob_copybook_tree::Item;
-use std::alloc::Global;
+use cob_picture::Picture;
+use std::alloc::{AllocError, Global};
 
 /// How often a move is tried between items of the same kinds and numbers of digits.
 pub const TRIES: u32 = 2;
 
-/// Moves a number of a kind, of so many digits, from an item to another.
-pub fn try_items(
+/// An item of a kind, of so many digits at a scale.
+pub fn item_at(
     alloc: Global,
-    steps: Steps,
-    from: &ItemKind,
-    sent: u32,
-    sender: &Item,
-    receiver: &Item,
-    trials: &mut Trials,
-) -> Result<(), Fault>
-    requires { sent ≤ 31 }
+    kind: &ItemKind,
+    digits: u32,
+    scale: i32,
+) -> Result<Option<Item>, AllocError>
+    requires { digits ≤ 31 }
 {
-    let record = drawn_record(alloc, from, sent as usize, &mut trials.draws)?;
-    tally_move(
-        alloc,
-        steps,
-        sender,
-        receiver,
-        record.as_slice(),
-        &mut trials.tally,
-    )
+    let mut text = String::new(alloc);
+    push_picture(&mut text, kind.signed, digits, scale)?;
+    match Picture::read(text.as_bytes()) {
+        Ok(picture) => Ok(Some(Item {
+            picture,
+            usage: kind.usage,
+            sign: kind.sign,
+            justified: false,
+            blank: false,
+        })),
+        Err(_) => Ok(None),
+    }
 }
 
-/// Moves it to an item of the other kind.
-fn try_from(
+/// An item of a kind, of so many digits and a drawn scale.
+pub fn drawn_item(
     alloc: Global,
-    pair: &Pair<'_>,
-    sender: &Item,
-    trials: &mut Trials,
-) -> Result<(), Fault> {
-    let receiver = drawn_item(alloc, pair.to, pair.received, &mut trials.draws)?;
-    try_items(
-        alloc,
-        Steps::Fitted,
-        pair.from,
-        pair.sent,
-        sender,
-        &receiver,
-        trials,
-    )
+    kind: &ItemKind,
+    digits: u32,
+    draws: &mut Draws,
+) -> Result<Option<Item>, AllocError>
+    requires some { 0 < digits }
+    requires most { digits ≤ 31 }
+{
+    let scale = drawn_scale(draws, digits);
+    item_at(alloc, kind, digits, scale)
 }
 
 /// Tries a move between items of two kinds and numbers of digits.
-fn try_move(alloc: Global, pair: &Pair<'_>, trials: &mut Trials) -> Result<(), Fault> {
-    let sender = drawn_item(alloc, pair.from, pair.sent, &mut trials.draws)?;
-    try_from(alloc, pair, &sender, trials)
+fn try_move(
+    alloc: Global,
+    from: &ItemKind,
+    to: &ItemKind,
+    sent: u32,
+    received: u32,
+    draws: &mut Draws,
+    tally: &mut Tally,
+) -> Result<(), AllocError>
+    requires some_sent { 0 < sent }
+    requires most_sent { sent ≤ 31 }
+    requires some_received { 0 < received }
+    requires most_received { received ≤ 31 }
+{
+    let sender = drawn_item(alloc, from, sent, draws)?;
+    let receiver = drawn_item(alloc, to, received, draws)?;
+    let record = drawn_record(alloc, from, sent as usize, draws)?;
+    match (&sender, &receiver) {
+        (Some(sender), Some(receiver)) => {
+            tally_move(alloc, sender, receiver, record.as_slice(), tally)
+        }
+        _ => {
+            tally.count_none();
+            Ok(())
+        }
+    }
 }
 
 /// Tries the moves between items of two kinds.
@@ -67,22 +85,17 @@ pub fn try_kinds(
     alloc: Global,
     from: &ItemKind,
     to: &ItemKind,
-    trials: &mut Trials,
-) -> Result<(), Fault> {
+    draws: &mut Draws,
+) -> Result<Tally, AllocError> {
+    let mut tally = Tally::new();
     for sent in 1..from.most_digits() + 1 {
         for received in 1..to.most_digits() + 1 {
-            let pair = Pair {
-                from,
-                sent,
-                to,
-                received,
-            };
             for _ in 0..TRIES {
-                try_move(alloc, &pair, trials)?;
+                try_move(alloc, from, to, sent, received, draws, &mut tally)?;
             }
         }
     }
-    Ok(())
+    Ok(tally)
 }
 
 /// Tries the moves between items of two kinds of which one at least has more than sixteen digits.
@@ -90,20 +103,15 @@ pub fn try_wide_kinds(
     alloc: Global,
     from: &ItemKind,
     to: &ItemKind,
-    trials: &mut Trials,
-) -> Result<(), Fault> {
+    draws: &mut Draws,
+) -> Result<Tally, AllocError> {
+    let mut tally = Tally::new();
     for sent in 1..from.most_wide_digits() + 1 {
         for received in 1..to.most_wide_digits() + 1 {
-            let pair = Pair {
-                from,
-                sent,
-                to,
-                received,
-            };
             if sent > 16 || received > 16 {
-                try_move(alloc, &pair, trials)?;
+                try_move(alloc, from, to, sent, received, draws, &mut tally)?;
             }
         }
     }
-    Ok(())
+    Ok(tally)
 }

@@ -1,21 +1,12 @@
 //! What came of moves, with a sum of what the receivers hold.
 
-use crate::draws::Draws;
-
 /// What came of the moves between two kinds of items.
-#[derive(Clone, Copy)]
-pub struct Tally {
-    pub moved: u32,
-    pub no_number: u32,
-    pub no_step: u32,
-    pub sum: u64,
-}
-
-/// Moves that are tried: what is drawn for them, and what came of them.
 #[derive(Drop)]
-pub struct Trials {
-    pub draws: Draws,
-    pub tally: Tally,
+pub struct Tally {
+    moved: u32,
+    no_number: u32,
+    no_step: u32,
+    sum: u64,
 }
 
 /// Adds a byte to a sum.
@@ -25,7 +16,7 @@ fn summed(sum: u64, byte: u8) -> u64 {
 
 impl Tally {
     /// Of no moves.
-    fn new() -> Tally {
+    pub fn new() -> Tally {
         Tally {
             moved: 0,
             no_number: 0,
@@ -51,21 +42,9 @@ impl Tally {
     pub fn count_none(&mut self) {
         self.no_step = self.no_step.wrapping_add(1);
     }
-}
 
-impl Trials {
-    /// Draws from this beginning, and no moves yet.
-    pub fn new(state: u64) -> Trials {
-        Trials {
-            draws: Draws::new(state),
-            tally: Tally::new(),
-        }
-    }
-
-    /// What came of the moves, and begins a new tally.
-    pub fn ended(&mut self) -> Tally {
-        let tally = self.tally;
-        self.tally = Tally::new();
-        tally
+    /// The moves that were made, those whose sender represented no number, those without a step, and the sum.
+    pub fn parts(&self) -> (u32, u32, u32, u64) {
+        (self.moved, self.no_number, self.no_step, self.sum)
     }
 }

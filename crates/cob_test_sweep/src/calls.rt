@@ -11,6 +11,7 @@ use cob_layout::Layout;
 use cob_move::{ConditionNames, Paragraph};
 use cob_move_apply::Scratch;
 use cob_move_names::pairs;
+use cob_move_statements::MoveFault;
 use cob_program_job::job;
 use cob_records::{MemSink, MemSource};
 use cob_report_show::{layout_text, show};
@@ -76,13 +77,21 @@ fn makes_pairs(alloc: Global, input: &Layout, output: &Layout) -> bool {
     pairs(alloc, input.root(), output.root()).is_ok()
 }
 
-/// Whether a paragraph between two records is read.
-fn reads_paragraph(alloc: Global, input: &Layout, output: &Layout, text: &[u8]) -> bool {
+/// Reads a paragraph between two records, and answers how many single moves it has.
+pub(crate) fn read_paragraph(
+    alloc: Global,
+    input: &Layout,
+    output: &Layout,
+    text: &[u8],
+) -> Result<u32, MoveFault> {
     let names = ConditionNames {
         input: &[],
         output: &[],
     };
-    Paragraph::read(alloc, input, output, names, text).is_ok()
+    match Paragraph::read(alloc, input, output, names, text) {
+        Ok(paragraph) => Ok(paragraph.moves()),
+        Err(fault) => Err(fault),
+    }
 }
 
 /// Whether there is room for the moves between two records.
@@ -108,8 +117,8 @@ fn read_between(
     did(makes_counts(alloc, input), "new_counts")?;
     did(makes_counts(alloc, output), "new_counts")?;
     did(makes_pairs(alloc, input, output), "pairs")?;
-    let has_read = reads_paragraph(alloc, input, output, job.moves.as_bytes());
-    did(has_read, "Paragraph::read")?;
+    let paragraph = read_paragraph(alloc, input, output, job.moves.as_bytes());
+    did(paragraph.is_ok(), "Paragraph::read")?;
     did(makes_scratch(alloc, input, output), "Scratch::new")
 }
 
@@ -195,11 +204,6 @@ fn prepare(alloc: Global, job: &SweepJob, reading: Reading) -> Result<Converter,
     }
 }
 
-/// Whether the conversion is prepared, with binary senders read so.
-fn prepares(alloc: Global, job: &SweepJob, reading: Reading) -> bool {
-    prepare(alloc, job, reading).is_ok()
-}
-
 /// Converts the records, and answers how many these are.
 fn run(
     converter: &mut Converter,
@@ -268,7 +272,8 @@ pub(crate) fn do_job(
     let has_words = reads_paragraph_words(alloc, job.moves.as_bytes());
     did(has_words, "paragraph_tokens")?;
     read_input(alloc, job, room, figures)?;
-    did(prepares(alloc, job, Reading::Whole), "prepare_with")?;
+    let is_prepared = prepare(alloc, job, Reading::Whole).is_ok();
+    did(is_prepared, "prepare_with")?;
     convert(alloc, job, room, figures)?;
     print_job(alloc, job, room, figures)?;
     figures.ok = figures.ok.saturating_add(1);

@@ -12,7 +12,6 @@ use crate::values::push_record;
 use cob_records::Form;
 use cob_test_rows::push_digits;
 use std::alloc::{AllocError, Global};
-use std::fmt::Write;
 
 /// A job of the sweep: its forms, its texts and its data.
 #[derive(Drop)]
@@ -128,15 +127,15 @@ impl SweepJob {
 
     /// Writes the job as one text.
     pub(crate) fn push_text(&self, text: &mut String) -> Result<(), AllocError> {
-        write!(
-            text,
-            "=IN {}{}=OUT {}{}=MOVE\n{}=DATA\n",
-            letter(self.in_form),
-            self.in_book,
-            letter(self.out_form),
-            self.out_book,
-            self.moves,
-        )?;
+        text.push_str("=IN ")?;
+        text.push_str(letter(self.in_form))?;
+        text.push_str(self.in_book.as_str())?;
+        text.push_str("=OUT ")?;
+        text.push_str(letter(self.out_form))?;
+        text.push_str(self.out_book.as_str())?;
+        text.push_str("=MOVE\n")?;
+        text.push_str(self.moves.as_str())?;
+        text.push_str("=DATA\n")?;
         push_digits(text, &self.data)?;
         text.push('\n')
     }

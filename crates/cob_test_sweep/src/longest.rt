@@ -1,9 +1,8 @@
 //! The longest paragraph, of MOVE CORRESPONDING alone.
 
-use crate::calls::{Refused, layout_of, read_book};
+use crate::calls::{Refused, layout_of, read_book, read_paragraph};
 use cob_copybook::Role;
 use cob_layout::Layout;
-use cob_move::Paragraph;
 use cob_move_statements::{MoveFault, MoveRule};
 use std::alloc::{AllocError, Global};
 
@@ -33,19 +32,6 @@ fn push_paragraph(text: &mut Vec<u8>, bytes: usize) -> Result<(), AllocError> {
 fn layout_of_text(alloc: Global, role: Role, text: &[u8]) -> Result<Layout, Refused> {
     let book = read_book(alloc, role, text)?;
     layout_of(alloc, &book)
-}
-
-/// Reads a paragraph between two records, and answers how many single moves it has.
-fn read_paragraph(
-    alloc: Global,
-    input: &Layout,
-    output: &Layout,
-    text: &[u8],
-) -> Result<u32, MoveFault> {
-    match Paragraph::read(alloc, input, output, text) {
-        Ok(paragraph) => Ok(paragraph.moves()),
-        Err(fault) => Err(fault),
-    }
 }
 
 /// How many single moves a paragraph has between this input record and the output record, or the rule that it breaks.

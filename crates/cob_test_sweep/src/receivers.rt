@@ -2,21 +2,23 @@
 
 use crate::draw::Draw;
 use crate::entries::{Entry, Shape, Times};
-use crate::style::Style;
+use crate::style::{Style, push_number};
 use std::alloc::AllocError;
-use std::fmt::Write;
 
 /// Writes the clauses of an entry of the input record.
 fn push_sending(text: &mut String, style: &Style, entry: &Entry<'_>) -> Result<(), AllocError> {
     match entry.shape {
         Shape::Group => Ok(()),
-        Shape::Item(row) | Shape::Count(row) => { write!(text, "\n           {}", row.clauses) }
+        Shape::Item(row) | Shape::Count(row) => {
+            text.push_str("\n           ")?;
+            text.push_str(row.clauses)
+        }
         Shape::Redefinition(of, row) => {
-            let (name, size) = (style.name(of), row.halves.len() / 2);
-            write!(
-                text,
-                "\n           REDEFINES\n           {name}\n           PIC X({size})"
-            )
+            text.push_str("\n           REDEFINES\n           ")?;
+            style.push_name(text, of)?;
+            text.push_str("\n           PIC X(")?;
+            push_number(text, row.halves.len() as u64 / 2)?;
+            text.push(')')
         }
     }
 }
@@ -62,7 +64,8 @@ fn push_receiver(
     entry: &Entry<'_>,
 ) -> Result<(), AllocError> {
     style.begin_entry(text, depth, Some(entry.number))?;
-    write!(text, "\n           {}", receiving(draw, entry))?;
+    text.push_str("\n           ")?;
+    text.push_str(receiving(draw, entry))?;
     style.end_entry(text, entry.times)
 }
 

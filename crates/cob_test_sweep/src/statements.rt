@@ -2,9 +2,8 @@
 
 use crate::draw::Draw;
 use crate::entries::{Entry, Times, with_table};
-use crate::style::{EntryName, Record, Style};
+use crate::style::{Record, Style, push_number};
 use std::alloc::AllocError;
-use std::fmt::Write;
 
 /// The numbers that the counter of a loop takes: the first, how much it grows, and the one that it does not pass.
 #[derive(Clone, Copy)]
@@ -47,12 +46,14 @@ fn push_subscripts(
     let mut before = " (";
     for times in tables {
         if let Some(subscript) = subscript(draw, *times) {
-            write!(text, "{before}{subscript}")?;
+            text.push_str(before)?;
+            push_number(text, subscript)?;
             before = " ";
         }
     }
     if counter != "" {
-        write!(text, "{before}{counter}")?;
+        text.push_str(before)?;
+        text.push_str(counter)?;
         before = " ";
     }
     if before == " " {
@@ -62,49 +63,50 @@ fn push_subscripts(
     }
 }
 
-/// Writes a word and the element of an entry of a record.
+/// Writes the element of an entry of a record.
 fn push_reference(
-    text: &mut String,
-    draw: &mut Draw,
-    word: &str,
-    name: EntryName,
-    record: Record,
-    tables: &[Times],
-    counter: &str,
-) -> Result<(), AllocError> {
-    let record = record.name;
-    write!(text, "{word}\n               {name} OF {record}")?;
-    push_subscripts(text, draw, tables, counter)
-}
-
-/// Writes the words that move an entry, which stands in these tables and occurs so often, to the one of its name, where the counter of a loop is
-/// the last subscript of both.
-fn push_words(
     text: &mut String,
     draw: &mut Draw,
     style: &Style,
     number: u64,
+    record: Record,
     tables: &[Times],
-    times: Times,
     counter: &str,
 ) -> Result<(), AllocError> {
-    let name = style.name(number);
+    text.push_str("\n               ")?;
+    style.push_name(text, number)?;
+    text.push_str(" OF ")?;
+    text.push_str(record.name)?;
+    push_subscripts(text, draw, tables, counter)
+}
+
+/// Writes the words that move an entry to the one of its name, where the counter of a loop is the last subscript of both.
+fn push_words(
+    text: &mut String,
+    draw: &mut Draw,
+    style: &Style,
+    entry: &Entry<'_>,
+    counter: &str,
+) -> Result<(), AllocError> {
+    let number = entry.number;
+    text.push_str("           MOVE")?;
     push_reference(
         text,
         draw,
-        "           MOVE",
-        name,
+        style,
+        number,
         style.input,
-        tables,
+        &entry.tables,
         counter,
     )?;
+    text.push_str("\n               TO")?;
     push_reference(
         text,
         draw,
-        "\n               TO",
-        name,
+        style,
+        number,
         style.output,
-        &[times],
+        &[entry.times],
         counter,
     )
 }
@@ -117,13 +119,17 @@ fn push_loop(
     entry: &Entry<'_>,
     turns: Turns,
 ) -> Result<(), AllocError> {
-    let Turns { first, step, bound } = turns;
-    write!(
-        text,
-        "           PERFORM VARYING I FROM {first} BY {step} UNTIL I > {bound}\n"
-    )?;
-    let tables = with_table(entry.tables, entry.depth, Times::Once);
-    push_words(text, draw, style, entry.number, &tables, Times::Once, "I")?;
+    text.push_str("           PERFORM VARYING I FROM ")?;
+    push_number(text, turns.first)?;
+    text.push_str(" BY ")?;
+    push_number(text, turns.step)?;
+    text.push_str(" UNTIL I > ")?;
+    push_number(text, turns.bound)?;
+    text.push('\n')?;
+    let mut element = *entry;
+    element.tables = with_table(entry.tables, entry.depth, Times::Once);
+    element.times = Times::Once;
+    push_words(text, draw, style, &element, "I")?;
     text.push_str("\n           END-PERFORM.\n")
 }
 
@@ -137,15 +143,7 @@ fn push_move(
     if let Some(turns) = draw_turns(draw, entry.times) {
         return push_loop(text, draw, style, entry, turns);
     }
-    push_words(
-        text,
-        draw,
-        style,
-        entry.number,
-        &entry.tables,
-        entry.times,
-        "",
-    )?;
+    push_words(text, draw, style, entry, "")?;
     text.push_str(".\n")
 }
 
@@ -163,6 +161,9 @@ pub(crate) fn push_statements(
     if draw.below(3) != 0 {
         return Ok(());
     }
-    let (input, output) = (style.input.name, style.output.name);
-    write!(text, "           MOVE CORRESPONDING {input} TO {output}.\n")
+    text.push_str("           MOVE CORRESPONDING ")?;
+    text.push_str(style.input.name)?;
+    text.push_str(" TO ")?;
+    text.push_str(style.output.name)?;
+    text.push_str(".\n")
 }

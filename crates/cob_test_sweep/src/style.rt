@@ -3,8 +3,7 @@
 use crate::draw::Draw;
 use crate::entries::{Times, Varying};
 use std::alloc::AllocError;
-use std::fmt;
-use std::fmt::{Display, Formatter, Write};
+use std::fmt::Write;
 
 /// What stands before the number of an entry in its name. The last one makes names of 30 letters.
 const PREFIXES: [&str; 3] = ["E", "ITEM-", "THE-NAME-OF-AN-ENTRY-NUMBER"];
@@ -27,19 +26,6 @@ pub(crate) struct Style {
     pub(crate) output: Record,
 }
 
-/// The name of an entry: its number has at least three digits there.
-#[derive(Clone, Copy)]
-pub(crate) struct EntryName {
-    prefix: &'static str,
-    number: u64,
-}
-
-impl Display for EntryName {
-    fn fmt<W: Write>(&self, f: &mut Formatter<W>) -> fmt::Result {
-        write!(f, "{}{:03}", self.prefix, self.number)
-    }
-}
-
 /// Draws whether a record has an entry of its own.
 fn record_in_style(draw: &mut Draw, named: Record, implied: &'static str) -> Record {
     if draw.below(4) != 0 {
@@ -49,6 +35,22 @@ fn record_in_style(draw: &mut Draw, named: Record, implied: &'static str) -> Rec
         name: implied,
         entry: "",
     }
+}
+
+/// Writes a number.
+pub(crate) fn push_number(text: &mut String, number: u64) -> Result<(), AllocError> {
+    write!(text, "{number}")
+}
+
+/// Writes a number below a thousand with at least two digits, or at least three.
+fn push_digits(text: &mut String, number: u64, digits: u64) -> Result<(), AllocError> {
+    if digits == 3 && number < 100 {
+        text.push('0')?;
+    }
+    if number < 10 {
+        text.push('0')?;
+    }
+    push_number(text, number)
 }
 
 impl Style {
@@ -74,12 +76,10 @@ impl Style {
         }
     }
 
-    /// The name of the entry of this number.
-    pub(crate) fn name(&self, number: u64) -> EntryName {
-        EntryName {
-            prefix: self.prefix,
-            number,
-        }
+    /// Writes the name of the entry of this number.
+    pub(crate) fn push_name(&self, text: &mut String, number: u64) -> Result<(), AllocError> {
+        text.push_str(self.prefix)?;
+        push_digits(text, number, 3)
     }
 
     /// Begins an entry: its level, and its name or FILLER.
@@ -90,28 +90,35 @@ impl Style {
         number: Option<u64>,
     ) -> Result<(), AllocError> {
         let level = depth.saturating_mul(self.step).saturating_add(1);
+        text.push_str("       ")?;
+        push_digits(text, level, 2)?;
+        text.push_str("  ")?;
         match number {
-            Some(number) => write!(text, "       {level:02}  {}", self.name(number)),
-            None => write!(text, "       {level:02}  FILLER"),
+            Some(number) => self.push_name(text, number),
+            None => text.push_str("FILLER"),
         }
+    }
+
+    /// Writes how often a table occurs that varies.
+    fn push_varying(&self, text: &mut String, table: Varying) -> Result<(), AllocError> {
+        text.push_str("\n           OCCURS ")?;
+        push_number(text, table.least)?;
+        text.push_str(" TO ")?;
+        push_number(text, table.most)?;
+        text.push_str(" DEPENDING ON\n           ")?;
+        self.push_name(text, table.count)
     }
 
     /// Ends an entry: how often it occurs, and the period.
     pub(crate) fn end_entry(&self, text: &mut String, times: Times) -> Result<(), AllocError> {
         match times {
-            Times::Once => text.push_str(".\n"),
-            Times::Fixed(most) => write!(text, "\n           OCCURS {most}.\n"),
-            Times::Varies(table) => self.end_varying(text, table),
+            Times::Once => {}
+            Times::Fixed(most) => {
+                text.push_str("\n           OCCURS ")?;
+                push_number(text, most)?;
+            }
+            Times::Varies(table) => self.push_varying(text, table)?,
         }
-    }
-
-    /// Ends an entry that occurs as often as a count says.
-    fn end_varying(&self, text: &mut String, table: Varying) -> Result<(), AllocError> {
-        let Varying { count, least, most } = table;
-        let count = self.name(count);
-        write!(
-            text,
-            "\n           OCCURS {least} TO {most} DEPENDING ON\n           {count}.\n"
-        )
+        text.push_str(".\n")
     }
 }
