@@ -1,6 +1,6 @@
 //! Flows carried out, one behind another.
 
-ghost use Rattle.std.specs.Prelude.{◌≡◌, ◌<◌, ◌≤◌, ◌∷◌, ℕ, length, IfErr, IfOk, OnErr, Some};
+ghost use Rattle.std.specs.Prelude.{◌≡◌, ◌<◌, ◌≤◌, ◌∷◌, ℕ, length, IfErr, IfOk, IfSome, OnErr, Ok, Some};
 ghost use Rattle.std.specs.List.{AllByRecursion, slice_get};
 ghost use Rattle.cob_layout.specs.Storage.{greatest_length, IsStorage};
 ghost use Rattle.cob_move_apply.specs.Applied.{Applied, ending};
@@ -27,7 +27,7 @@ use crate::laws::tests_are_one;
 use crate::ready::ReadyDeeds;
 use crate::row::{behind, behind_skip, first_moves};
 use crate::sides::Sides;
-use cob_layout::one_outcome_of_counts;
+use cob_layout::{one_outcome_of_counts, places_lie_in_storage};
 use cob_move_apply::{Scratch, Stop, one_ending};
 use cob_move_condition::says;
 
@@ -244,12 +244,12 @@ fn make_row<'a>(
     Ok(row.left)
 }
 
-/// Whether the condition with this number holds.
+/// Whether the condition with this number holds, by what its entries give.
 ///
 /// # Errors
 ///
 /// The first thing missing for it.
-pub(crate) fn condition_says(
+fn condition_said(
     deeds: &ReadyDeeds,
     number: usize,
     sides: &Sides<'_>,
@@ -278,6 +278,59 @@ pub(crate) fn condition_says(
         output,
     };
     says(&deeds.asked.conditions[number], &giving, scratch)
+}
+
+/// Whether the condition with this number holds, where it was made ready; None where it wasn't.
+fn ready_says(deeds: &ReadyDeeds, number: usize, sides: &Sides<'_>, output: &[u8]) -> Option<bool>
+    requires prepared { AreDeedsPrepared (records_of_sides sides.now) deeds.now }
+    requires there { number < length deeds.now.asked.conditions.items }
+    requires input { IsStorage sides.now.input_layout.now sides.now.input.now }
+    requires output { length output.now ≡ greatest_length sides.now.output_layout.now }
+    ensures { IfSome result (λ holds. (c : Condition)
+        → slice_get deeds.now.asked.conditions.items number ≡ Some c
+        → Judged (records_of_sides sides.now)
+        (Holds (condition_of (sender_at (records_of_sides sides.now) (flow_support deeds.now)) c))
+        sides.now.input.now output.now (Ok holds)) }
+{
+    // A place that is the same in every storage lies within it.
+    places_lie_in_storage();
+    let _ = sides.input_layout.greatest();
+    let _ = sides.output_layout.greatest();
+    let test = deeds.ready_test(number)?;
+    Some(test.holds(sides, output))
+}
+
+/// Whether the condition with this number holds.
+///
+/// # Errors
+///
+/// The first thing missing for it.
+pub(crate) fn condition_says(
+    deeds: &ReadyDeeds,
+    number: usize,
+    sides: &Sides<'_>,
+    output: &[u8],
+    scratch: &mut Scratch,
+) -> Result<bool, Stop>
+    requires prepared { AreDeedsPrepared (records_of_sides sides.now) deeds.now }
+    requires there { number < length deeds.now.asked.conditions.items }
+    requires input { IsStorage sides.now.input_layout.now sides.now.input.now }
+    requires output { length output.now ≡ greatest_length sides.now.output_layout.now }
+    requires kept { HasKept (records_of_sides sides.now) sides.now.input.now output.now
+        scratch.old }
+    ensures says { (c : Condition)
+        → slice_get deeds.now.asked.conditions.items number ≡ Some c
+        → Judged (records_of_sides sides.now)
+        (Holds (condition_of (sender_at (records_of_sides sides.now) (flow_support deeds.now)) c))
+        sides.now.input.now output.now result }
+    ensures kept { HasKept (records_of_sides sides.now) sides.now.input.now output.now
+        scratch.new }
+    ensures reads { ReadsFor sides.now.output_layout.now 0 result scratch.old scratch.new }
+{
+    match ready_says(deeds, number, sides, output) {
+        Some(holds) => Ok(holds),
+        None => condition_said(deeds, number, sides, output, scratch),
+    }
 }
 
 /// Tests the condition with this number, and answers the flows that are left behind it: those in front, which are carried out where it holds, or those behind

@@ -43,6 +43,7 @@ mod ready;
 mod row;
 mod sides;
 mod steady;
+mod text_test;
 mod told;
 
 pub use flow::{Asked, Bound, CountedLoop, Flow};

@@ -23,6 +23,7 @@ use crate::flow::{Asked, Bound, CountedLoop, Flow};
 use crate::laws::tests_are_one;
 use crate::sides::Sides;
 use crate::steady::Stretch;
+use crate::text_test::TextTest;
 use cob_layout::Layout;
 use cob_move_apply::{MarkedMoves, Reading, Scratch, Stop, one_ending};
 use cob_move_data::StatementMoves;
@@ -52,6 +53,8 @@ pub struct ReadyDeeds {
     pub(crate) flows: Vec<Flow>,
     /// Between which marks moves leave each bound alone, by its number, where that was looked at.
     pub(crate) steady: Option<Vec<Option<Stretch>>>,
+    /// What was made ready of each condition, by its number, where that was looked at.
+    pub(crate) tests: Option<Vec<Option<TextTest>>>,
     /// Whether the flows carry out all of the moves at once, which is found out before the first record comes.
     pub(crate) at_once: bool,
     pub(crate) ghost told: { at_once ≡ are_all_moves (length moves.marks.items) flows.items },
@@ -86,6 +89,7 @@ impl ReadyDeeds {
             asked,
             flows,
             steady: None,
+            tests: None,
             at_once,
         }
     }
@@ -104,6 +108,7 @@ impl ReadyDeeds {
             asked: self.asked,
             flows: self.flows,
             steady: self.steady,
+            tests: self.tests,
             at_once: self.at_once,
         }
     }

@@ -197,6 +197,7 @@ impl ReadyDeeds {
             asked: self.asked,
             flows: self.flows,
             steady: Some(noted),
+            tests: self.tests,
             at_once: self.at_once,
         })
     }

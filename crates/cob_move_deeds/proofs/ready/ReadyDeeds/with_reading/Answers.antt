@@ -20,6 +20,7 @@ returns-clause-prepared c r prepared = record {
   flows = record { each = flows_still (flow_support c.args.self) c.with_reading.result c.with_reading.ensures.ends c.args.self.flows.items prepared.flows.each; nested = prepared.flows.nested };
   steady = steady_noted_read (λ noted. noted.items) c.args.reading r c.args.self.moves c.with_reading.result c.args.self.bounds.items c.args.self.steady (λ from to. c.with_reading.ensures.between r from to)
       (same_marks c.args.self.moves c.with_reading.result c.with_reading.ensures.ends) prepared.steady;
+  tests = prepared.tests;
 }
 
 pub returns-clause-whole : goal.returns-clause-whole

@@ -7,4 +7,5 @@ returns-clause-prepared c = λ r same prepared. record {
   asked = prepared.asked;
   flows = prepared.flows;
   steady = c.in_ok-noted.ensures r same prepared;
+  tests = prepared.tests;
 }

@@ -13,7 +13,7 @@ use Rattle.cob_move_deeds.specs.Flows.{FlowSupport, sender_placed}
 use Rattle.cob_move_deeds.specs.Prepared.{IsThere, flow_support, kind_at, kind_placed}
 use Rattle.cob_move_deeds.specs.Tests.{GivesIn, LacksIn}
 use Rattle.cob_move_deeds.proofs.GivingLemmas.{condition_at, reads_of}
-use Rattle.cob_move_deeds.proofs.carrying.condition_says.Goals as goal
+use Rattle.cob_move_deeds.proofs.carrying.condition_said.Goals as goal
 
 pub says-requires-clause-tested : goal.says-requires-clause-tested
 says-requires-clause-tested c =
