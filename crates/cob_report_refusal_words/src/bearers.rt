@@ -69,6 +69,17 @@ impl<'a> Bearer<'a> {
         entry_at(self.book.words, self.before)
     }
 
+    /// What holds the entry, if something does: the item of an entry of level 88.
+    pub(crate) fn holder(self) -> Option<Bearer<'a>> {
+        match holder_at(self.book.words, self.before) {
+            Some(before) => Some(Bearer {
+                book: self.book,
+                before,
+            }),
+            None => None,
+        }
+    }
+
     /// Whether a group with this name holds the entry, its record too.
     fn is_held_by(self, group: &[u8]) -> bool {
         let words = self.book.words;
@@ -138,6 +149,15 @@ impl<'a> BothWords<'a> {
         }
     }
 
+    /// The one of them that so many stand before, if there are as many.
+    pub(crate) fn nth(self, looked: Looked<'_>, before: usize) -> Option<Bearer<'a>> {
+        let mut next = self.first(looked);
+        for _ in 0..before {
+            next = self.next(next?, looked);
+        }
+        next
+    }
+
     /// The next of them behind this one.
     pub(crate) fn next(self, bearer: Bearer<'a>, looked: Looked<'_>) -> Option<Bearer<'a>> {
         match bearer_from(bearer.book, bearer.before.saturating_add(1), looked) {
@@ -156,11 +176,12 @@ fn qualifier_in_front(words: &[Token]) -> Option<&Token> {
     }
 }
 
-/// The entry that the name in front means with its first qualifier, where one alone has both.
-pub(crate) fn meant<'a>(both: BothWords<'a>, words: &[Token]) -> Option<Bearer<'a>> {
-    let (name, more) = words.split_first()?;
-    let group = qualifier_in_front(more);
-    let looked = Looked::Named(name.text.as_slice());
+/// The entry that is looked for and held by a group with this qualifier, if there is one, where it alone is.
+pub(crate) fn only_one<'a>(
+    both: BothWords<'a>,
+    looked: Looked<'_>,
+    group: Option<&Token>,
+) -> Option<Bearer<'a>> {
     let mut next = both.first(looked);
     let mut found: Option<Bearer<'a>> = None;
     for _ in 0..MOST_BEARERS {
@@ -176,6 +197,20 @@ pub(crate) fn meant<'a>(both: BothWords<'a>, words: &[Token]) -> Option<Bearer<'
         next = both.next(bearer, looked);
     }
     found
+}
+
+/// The entry that the name in front means with its first qualifier, where one alone has both.
+pub(crate) fn meant<'a>(both: BothWords<'a>, words: &[Token]) -> Option<Bearer<'a>> {
+    let (name, more) = words.split_first()?;
+    let looked = Looked::Named(name.text.as_slice());
+    only_one(both, looked, qualifier_in_front(more))
+}
+
+/// The entry of level 88 that the name in front means so.
+pub(crate) fn condition_meant<'a>(both: BothWords<'a>, words: &[Token]) -> Option<Bearer<'a>> {
+    let (name, more) = words.split_first()?;
+    let looked = Looked::Condition(name.text.as_slice());
+    only_one(both, looked, qualifier_in_front(more))
 }
 
 /// Writes the name of an entry with a name.
