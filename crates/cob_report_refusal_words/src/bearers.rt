@@ -52,6 +52,15 @@ impl<'a> BookWords<'a> {
             "OUT-RECORD"
         }
     }
+
+    /// Whether a word is the name that its role gives the record, and the record has another one.
+    fn is_role_of_other_name(self, word: &Token) -> bool {
+        let given = self.given_name().as_bytes();
+        match self.record_word() {
+            Some(own) => word.text.as_slice() == given && own.text.as_slice() != given,
+            None => false,
+        }
+    }
 }
 
 /// An entry of one of the records.
@@ -133,6 +142,11 @@ impl<'a> BothWords<'a> {
         } else {
             None
         }
+    }
+
+    /// Whether a word is the name that its role gives a record, and that record has another one.
+    pub(crate) fn is_role_alone(self, word: &Token) -> bool {
+        self.input.is_role_of_other_name(word) || self.output.is_role_of_other_name(word)
     }
 
     /// How many entries of both records are looked for.

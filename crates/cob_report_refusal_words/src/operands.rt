@@ -70,19 +70,45 @@ fn unknown_hint<'a>(
     Some(near_words(near))
 }
 
+/// The first word of a statement that names a record by its role, where that record has another name.
+fn role_word<'a>(both: BothWords<'_>, statement: &'a [Token]) -> Option<&'a Token> {
+    for word in statement {
+        if both.is_role_alone(word) {
+            return Some(word);
+        }
+    }
+    None
+}
+
+/// What is told of a statement whose names are not found with their qualifiers: of one that is the role of a record, or else plainly.
+fn told_qualifiers<'a>(both: BothWords<'_>, statement: &'a [Token]) -> Told<'a> {
+    match role_word(both, statement) {
+        Some(word) => advised_at(
+            word,
+            Phrase::of("no record is named {}", Part::Word(word)),
+            "--records-as in-out names the records IN-RECORD and OUT-RECORD",
+        ),
+        None => said_plainly(
+            statement,
+            "no entry of the two records has a name of it with these qualifiers",
+        ),
+    }
+}
+
 /// What is told of a statement, every name of which some entry has, where one is not found: of the word of a choice behind it, which is a name outside of one; or
 /// else of the qualifiers.
-fn told_not_found<'a>(statement: &'a [Token], behind: &'a [Token]) -> Told<'a> {
+fn told_not_found<'a>(
+    both: BothWords<'_>,
+    statement: &'a [Token],
+    behind: &'a [Token],
+) -> Told<'a> {
     match behind.first() {
         Some(word) if is_branch_word(word) => advised_at(
             word,
             Phrase::of("{} stands in no IF and in no EVALUATE", Part::Word(word)),
             "an IF ends with END-IF, an EVALUATE with END-EVALUATE",
         ),
-        _ => said_plainly(
-            statement,
-            "no entry of the two records has a name of it with these qualifiers",
-        ),
+        _ => told_qualifiers(both, statement),
     }
 }
 
@@ -98,7 +124,7 @@ pub(crate) fn told_unknown<'a>(
             what: Phrase::of("no entry of the two records is named {}", Part::Word(word)),
             hint: unknown_hint(both, statement, word, at),
         },
-        None => told_not_found(statement, behind),
+        None => told_not_found(both, statement, behind),
     }
 }
 
