@@ -52,6 +52,15 @@ impl<'a> BookWords<'a> {
             "OUT-RECORD"
         }
     }
+
+    /// Whether a word is the name that its role gives the record, and the record has another one.
+    fn is_role_of_other_name(self, word: &Token) -> bool {
+        let given = self.given_name().as_bytes();
+        match self.record_word() {
+            Some(own) => word.text.as_slice() == given && own.text.as_slice() != given,
+            None => false,
+        }
+    }
 }
 
 /// An entry of one of the records.
@@ -67,6 +76,17 @@ impl<'a> Bearer<'a> {
     /// The entry as it is written.
     pub(crate) fn entry(self) -> &'a [Token] {
         entry_at(self.book.words, self.before)
+    }
+
+    /// What holds the entry, if something does: the item of an entry of level 88.
+    pub(crate) fn holder(self) -> Option<Bearer<'a>> {
+        match holder_at(self.book.words, self.before) {
+            Some(before) => Some(Bearer {
+                book: self.book,
+                before,
+            }),
+            None => None,
+        }
     }
 
     /// Whether a group with this name holds the entry, its record too.
@@ -124,6 +144,11 @@ impl<'a> BothWords<'a> {
         }
     }
 
+    /// Whether a word is the name that its role gives a record, and that record has another one.
+    pub(crate) fn is_role_alone(self, word: &Token) -> bool {
+        self.input.is_role_of_other_name(word) || self.output.is_role_of_other_name(word)
+    }
+
     /// How many entries of both records are looked for.
     pub(crate) fn count(self, looked: Looked<'_>) -> usize {
         let of_input = found_in(self.input.words, looked).count;
@@ -136,6 +161,15 @@ impl<'a> BothWords<'a> {
             Some(bearer) => Some(bearer),
             None => bearer_from(self.output, 0, looked),
         }
+    }
+
+    /// The one of them that so many stand before, if there are as many.
+    pub(crate) fn nth(self, looked: Looked<'_>, before: usize) -> Option<Bearer<'a>> {
+        let mut next = self.first(looked);
+        for _ in 0..before {
+            next = self.next(next?, looked);
+        }
+        next
     }
 
     /// The next of them behind this one.
@@ -156,11 +190,12 @@ fn qualifier_in_front(words: &[Token]) -> Option<&Token> {
     }
 }
 
-/// The entry that the name in front means with its first qualifier, where one alone has both.
-pub(crate) fn meant<'a>(both: BothWords<'a>, words: &[Token]) -> Option<Bearer<'a>> {
-    let (name, more) = words.split_first()?;
-    let group = qualifier_in_front(more);
-    let looked = Looked::Named(name.text.as_slice());
+/// The entry that is looked for and held by a group with this qualifier, if there is one, where it alone is.
+pub(crate) fn only_one<'a>(
+    both: BothWords<'a>,
+    looked: Looked<'_>,
+    group: Option<&Token>,
+) -> Option<Bearer<'a>> {
     let mut next = both.first(looked);
     let mut found: Option<Bearer<'a>> = None;
     for _ in 0..MOST_BEARERS {
@@ -176,6 +211,20 @@ pub(crate) fn meant<'a>(both: BothWords<'a>, words: &[Token]) -> Option<Bearer<'
         next = both.next(bearer, looked);
     }
     found
+}
+
+/// The entry that the name in front means with its first qualifier, where one alone has both.
+pub(crate) fn meant<'a>(both: BothWords<'a>, words: &[Token]) -> Option<Bearer<'a>> {
+    let (name, more) = words.split_first()?;
+    let looked = Looked::Named(name.text.as_slice());
+    only_one(both, looked, qualifier_in_front(more))
+}
+
+/// The entry of level 88 that the name in front means so.
+pub(crate) fn condition_meant<'a>(both: BothWords<'a>, words: &[Token]) -> Option<Bearer<'a>> {
+    let (name, more) = words.split_first()?;
+    let looked = Looked::Condition(name.text.as_slice());
+    only_one(both, looked, qualifier_in_front(more))
 }
 
 /// Writes the name of an entry with a name.

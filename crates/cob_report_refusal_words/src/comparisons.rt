@@ -1,8 +1,9 @@
 //! Operands that can't be compared or tested.
 
-use crate::bearers::{Bearer, BothWords, described_part, meant, operand_part};
+use crate::bearers::{Bearer, BothWords, condition_meant, described_part, meant, operand_part};
 use crate::choices::{is_one_of, is_word, test_len};
 use crate::clauses::is_characters;
+use crate::conditions::values_of;
 use crate::entry::{behind_many, front_of, picture_word, word_of};
 use crate::phrases::{Part, Phrase};
 use crate::statements::is_constant;
@@ -203,6 +204,14 @@ fn form_of_constant(word: &Token) -> Form {
     }
 }
 
+/// What an entry is.
+fn form_of_entry(bearer: Bearer<'_>) -> Form {
+    match picture_word(bearer.entry()) {
+        Some(word) => form_of_picture(word, is_display(bearer)),
+        None => Form::Any,
+    }
+}
+
 /// What the operand in front is.
 fn form_of(both: BothWords<'_>, words: &[Token]) -> Form {
     let Some(first) = words.first() else {
@@ -211,11 +220,8 @@ fn form_of(both: BothWords<'_>, words: &[Token]) -> Form {
     if has_constant(words) {
         return form_of_constant(first);
     }
-    let Some(bearer) = meant(both, words) else {
-        return Form::Any;
-    };
-    match picture_word(bearer.entry()) {
-        Some(word) => form_of_picture(word, is_display(bearer)),
+    match meant(both, words) {
+        Some(bearer) => form_of_entry(bearer),
         None => Form::Any,
     }
 }
@@ -226,6 +232,35 @@ fn are_apart(first: Form, second: Form) -> bool {
         || (first == Form::Characters && second == Form::Number)
 }
 
+/// The first value of a condition that can't be compared with its item, as far as their own words say.
+fn foreign_value<'a>(condition: Bearer<'a>, item: Bearer<'_>) -> Option<&'a Token> {
+    let form = form_of_entry(item);
+    let values = values_of(condition.entry());
+    for (at, word) in values.iter().enumerate() {
+        let rest = behind_many(values, at);
+        if has_constant(rest) && are_apart(form, form_of_constant(word)) {
+            return Some(word);
+        }
+    }
+    None
+}
+
+/// Whether a value of a condition can't be compared with its item, as far as their own words say.
+fn has_foreign_value(condition: Bearer<'_>) -> bool {
+    match condition.holder() {
+        Some(item) => foreign_value(condition, item).is_some(),
+        None => false,
+    }
+}
+
+/// The condition that a simple condition names, if it is a name alone that one has.
+fn condition_of<'a>(both: BothWords<'a>, simple: Simple<'_>) -> Option<Bearer<'a>> {
+    if !simple.rest.is_empty() {
+        return None;
+    }
+    condition_meant(both, simple.first)
+}
+
 /// The second operand of a relation.
 fn second_of<'a>(simple: Simple<'a>) -> &'a [Token] {
     behind_many(simple.rest, front_len(simple.rest, Stretch::Relation))
@@ -233,6 +268,9 @@ fn second_of<'a>(simple: Simple<'a>) -> &'a [Token] {
 
 /// Whether a simple condition is at fault, as far as its own words say.
 fn is_apart(both: BothWords<'_>, simple: Simple<'_>) -> bool {
+    if let Some(condition) = condition_of(both, simple) {
+        return has_foreign_value(condition);
+    }
     if simple.rest.is_empty() {
         return true;
     }
@@ -286,8 +324,33 @@ fn told_relation<'a>(both: BothWords<'a>, simple: Simple<'a>) -> Told<'a> {
     )
 }
 
+/// What is told of the values of a condition, which can't be compared with its item.
+fn told_condition<'a>(name: &'a [Token], condition: Bearer<'a>, item: Bearer<'a>) -> Told<'a> {
+    let what = match foreign_value(condition, item) {
+        Some(value) => Phrase::of_four(
+            "{}{}, beside {} of {}: they can't be compared",
+            Part::Entry(item.entry()),
+            Part::Described(item.entry()),
+            Part::Word(value),
+            operand_part(name),
+        ),
+        None => Phrase::of_three(
+            "{}{}, beside a value of {}: they can't be compared",
+            Part::Entry(item.entry()),
+            Part::Described(item.entry()),
+            operand_part(name),
+        ),
+    };
+    advised_first(name, what, COMPARED)
+}
+
 /// What is told of a simple condition that can't be tested.
 fn told_simple<'a>(both: BothWords<'a>, simple: Simple<'a>) -> Told<'a> {
+    if let Some(condition) = condition_of(both, simple) {
+        if let Some(item) = condition.holder() {
+            return told_condition(simple.first, condition, item);
+        }
+    }
     if simple.rest.is_empty() {
         return advised_first(
             simple.first,
@@ -306,8 +369,11 @@ fn has_quality(simple: Simple<'_>) -> bool {
     quality_of(simple).is_some()
 }
 
-/// A simple condition with the subject that was stated before, where it leaves that out.
-fn completed<'a>(simple: Simple<'a>, subject: &'a [Token]) -> Simple<'a> {
+/// A simple condition with the subject that was stated before, where it leaves that out. A condition's name states and takes none.
+fn completed<'a>(both: BothWords<'_>, simple: Simple<'a>, subject: &'a [Token]) -> Simple<'a> {
+    if condition_of(both, simple).is_some() {
+        return simple;
+    }
     if simple.first.is_empty() {
         return Simple {
             first: subject,
@@ -323,7 +389,29 @@ fn completed<'a>(simple: Simple<'a>, subject: &'a [Token]) -> Simple<'a> {
     simple
 }
 
-/// The simple condition that is told of: the first at fault as far as its own words say, or else the first that tests a class or a sign, or else the first.
+/// How likely a simple condition is the one at fault, where its own words don't say: one that tests a class or a sign most, and a condition's name least.
+fn rank(both: BothWords<'_>, simple: Simple<'_>) -> u8 {
+    if has_quality(simple) {
+        return 2;
+    }
+    if condition_of(both, simple).is_some() {
+        0
+    } else {
+        1
+    }
+}
+
+/// The subject that a simple condition states for those behind it.
+fn subject_of<'a>(both: BothWords<'_>, simple: Simple<'a>) -> &'a [Token] {
+    if rank(both, simple) == 1 {
+        simple.first
+    } else {
+        &[]
+    }
+}
+
+/// The simple condition that is told of: the first at fault as far as its own words say, or else the first that tests a class or a sign, or else the first that is
+/// no condition's name, or else the first.
 fn told_of<'a>(both: BothWords<'_>, words: &'a [Token]) -> Simple<'a> {
     let (first, _) = simple_at(words);
     let mut told = first;
@@ -331,14 +419,14 @@ fn told_of<'a>(both: BothWords<'_>, words: &'a [Token]) -> Simple<'a> {
     let mut rest = words;
     for _ in 0..words.len() {
         let (simple, more) = simple_at(rest);
-        let own = completed(simple, subject);
+        let own = completed(both, simple, subject);
         if is_apart(both, own) {
             return own;
         }
-        if has_quality(own) && !has_quality(told) {
+        if rank(both, own) > rank(both, told) {
             told = own;
         }
-        subject = if has_quality(own) { &[] } else { own.first };
+        subject = subject_of(both, own);
         if more.is_empty() {
             return told;
         }

@@ -29,6 +29,7 @@ mod clashes;
 mod clauses;
 mod columns;
 mod comparisons;
+mod conditions;
 mod entry;
 mod grammar;
 mod left_out;

@@ -3,6 +3,7 @@
 use crate::bearers::{Bearer, BothWords, MOST_BEARERS, described_part, meant, operand_part};
 use crate::choices::is_branch_word;
 use crate::comparisons::{is_test, is_test_word};
+use crate::conditions::{apart_by_item, condition_hint, conditions_at, near_words, stands_alone};
 use crate::entry::{behind_many, front_of, line_of, picture_word};
 use crate::phrases::{Part, Phrase};
 use crate::search::Looked;
@@ -13,12 +14,14 @@ use cob_copybook_clauses::WordClass;
 use cob_picture::{Category, Picture};
 use cob_source::Token;
 
-/// Whether the last bracket among these words is one that opens.
+/// Whether the last bracket behind a name among these words is one that opens: a bracket elsewhere holds conditions together.
 fn end_in_brackets(words: &[Token]) -> bool {
     let mut inside = false;
+    let mut is_behind_name = false;
     for word in words {
-        inside = is_term(word, WordClass::OpenBracket)
-            || (inside && !is_term(word, WordClass::CloseBracket));
+        let opens = is_behind_name && is_term(word, WordClass::OpenBracket);
+        inside = opens || (inside && !is_term(word, WordClass::CloseBracket));
+        is_behind_name = is_name_word(word) && !is_test_word(word);
     }
     inside
 }
@@ -34,42 +37,78 @@ fn is_reference(statement: &[Token], at: usize, word: &Token) -> bool {
     is_name_word(word) && !tests && !qualifies && !end_in_brackets(front)
 }
 
-/// The first name of a statement that no entry has.
-fn unknown_name<'a>(both: BothWords<'_>, statement: &'a [Token]) -> Option<&'a Token> {
+/// How many entries a name of a statement may mean that so many words stand before, those of level 88 only where it stands alone in a test.
+fn bearers_at(both: BothWords<'_>, statement: &[Token], at: usize, word: &Token) -> Bearers {
+    Bearers {
+        conditions: conditions_at(both, statement, at, word),
+        entries: both.count(Looked::Named(word.text.as_slice())),
+    }
+}
+
+/// The first name of a statement that no entry has, and how many words stand before it.
+fn unknown_name<'a>(both: BothWords<'_>, statement: &'a [Token]) -> Option<(&'a Token, usize)> {
     for (at, word) in statement.iter().enumerate() {
-        let looked = Looked::Named(word.text.as_slice());
-        if is_reference(statement, at, word) && both.count(looked) == 0 {
+        if is_reference(statement, at, word) && bearers_at(both, statement, at, word).count() == 0 {
+            return Some((word, at));
+        }
+    }
+    None
+}
+
+/// What is told beside a name that no entry has and that so many words of a statement stand before, if something is: of a condition, or of an entry with a name that
+/// is near to it.
+fn unknown_hint<'a>(
+    both: BothWords<'a>,
+    statement: &[Token],
+    word: &'a Token,
+    at: usize,
+) -> Option<Phrase<'a>> {
+    if let Some(hint) = condition_hint(both, word, stands_alone(statement, at)) {
+        return Some(hint);
+    }
+    let near = both.first(Looked::Near(word.text.as_slice()))?;
+    Some(near_words(near))
+}
+
+/// The first word of a statement that names a record by its role, where that record has another name.
+fn role_word<'a>(both: BothWords<'_>, statement: &'a [Token]) -> Option<&'a Token> {
+    for word in statement {
+        if both.is_role_alone(word) {
             return Some(word);
         }
     }
     None
 }
 
-/// An entry whose name is near to a word, if there is one.
-fn near_hint<'a>(both: BothWords<'a>, word: &Token) -> Option<Phrase<'a>> {
-    let near = both.first(Looked::Near(word.text.as_slice()))?;
-    let entry = near.entry();
-    Some(Phrase::of_three(
-        "{} ({} line {}) is near to it",
-        Part::Entry(entry),
-        Part::Text(near.book.option()),
-        Part::Number(line_of(entry) as usize),
-    ))
+/// What is told of a statement whose names are not found with their qualifiers: of one that is the role of a record, or else plainly.
+fn told_qualifiers<'a>(both: BothWords<'_>, statement: &'a [Token]) -> Told<'a> {
+    match role_word(both, statement) {
+        Some(word) => advised_at(
+            word,
+            Phrase::of("no record is named {}", Part::Word(word)),
+            "--records-as in-out names the records IN-RECORD and OUT-RECORD",
+        ),
+        None => said_plainly(
+            statement,
+            "no entry of the two records has a name of it with these qualifiers",
+        ),
+    }
 }
 
 /// What is told of a statement, every name of which some entry has, where one is not found: of the word of a choice behind it, which is a name outside of one; or
 /// else of the qualifiers.
-fn told_not_found<'a>(statement: &'a [Token], behind: &'a [Token]) -> Told<'a> {
+fn told_not_found<'a>(
+    both: BothWords<'_>,
+    statement: &'a [Token],
+    behind: &'a [Token],
+) -> Told<'a> {
     match behind.first() {
         Some(word) if is_branch_word(word) => advised_at(
             word,
             Phrase::of("{} stands in no IF and in no EVALUATE", Part::Word(word)),
             "an IF ends with END-IF, an EVALUATE with END-EVALUATE",
         ),
-        _ => said_plainly(
-            statement,
-            "no entry of the two records has a name of it with these qualifiers",
-        ),
+        _ => told_qualifiers(both, statement),
     }
 }
 
@@ -80,12 +119,12 @@ pub(crate) fn told_unknown<'a>(
     behind: &'a [Token],
 ) -> Told<'a> {
     match unknown_name(both, statement) {
-        Some(word) => Told {
+        Some((word, at)) => Told {
             at: Some(Caret::under(word)),
             what: Phrase::of("no entry of the two records is named {}", Part::Word(word)),
-            hint: near_hint(both, word),
+            hint: unknown_hint(both, statement, word, at),
         },
-        None => told_not_found(statement, behind),
+        None => told_not_found(both, statement, behind),
     }
 }
 
@@ -95,24 +134,38 @@ fn is_free(statement: &[Token], at: usize, word: &Token) -> bool {
     is_reference(statement, at, word) && behind(more, WordClass::Of).is_none()
 }
 
-/// The first of the entries with a name, where there are several.
-fn first_of_several<'a>(both: BothWords<'a>, name: &[u8]) -> Option<Bearer<'a>> {
-    let looked = Looked::Named(name);
-    if both.count(looked) > 1 {
-        return both.first(looked);
-    }
-    None
+/// How many entries have a name.
+#[derive(Clone, Copy)]
+struct Bearers {
+    /// How many of level 88.
+    conditions: usize,
+    /// How many others.
+    entries: usize,
 }
 
-/// The first name of a statement without qualifiers that several entries have, and the first of these.
-fn ambiguous_name<'a>(
-    both: BothWords<'a>,
-    statement: &'a [Token],
-) -> Option<(&'a Token, Bearer<'a>)> {
+impl Bearers {
+    /// How many in all.
+    fn count(self) -> usize {
+        self.conditions.saturating_add(self.entries)
+    }
+
+    /// The one of those with this name that so many stand before, conditions first.
+    fn nth<'a>(self, both: BothWords<'a>, word: &Token, before: usize) -> Option<Bearer<'a>> {
+        let name = word.text.as_slice();
+        if before < self.conditions {
+            return both.nth(Looked::Condition(name), before);
+        }
+        both.nth(Looked::Named(name), before.saturating_sub(self.conditions))
+    }
+}
+
+/// The first name of a statement without qualifiers that several entries have, and how many.
+fn ambiguous_name<'a>(both: BothWords<'_>, statement: &'a [Token]) -> Option<(&'a Token, Bearers)> {
     for (at, word) in statement.iter().enumerate() {
         if is_free(statement, at, word) {
-            if let Some(first) = first_of_several(both, word.text.as_slice()) {
-                return Some((word, first));
+            let bearers = bearers_at(both, statement, at, word);
+            if bearers.count() > 1 {
+                return Some((word, bearers));
             }
         }
     }
@@ -127,15 +180,9 @@ fn bearer_part(bearer: Option<Bearer<'_>>) -> Part<'_> {
     }
 }
 
-/// What is told of a name that several entries have, of which this is the first: three of them at most.
-fn several_words<'a>(both: BothWords<'a>, word: &'a Token, first: Bearer<'a>) -> Phrase<'a> {
-    let looked = Looked::Named(word.text.as_slice());
-    let second = both.next(first, looked);
-    let third = match second {
-        Some(second) => both.next(second, looked),
-        None => None,
-    };
-    let form = if third.is_some() {
+/// What is told of a name that several entries have: three of them at most.
+fn several_words<'a>(both: BothWords<'a>, word: &'a Token, bearers: Bearers) -> Phrase<'a> {
+    let form = if bearers.count() > 2 {
         "{} is {} entries: {}, {}, {}"
     } else {
         "{} is {} entries: {}, {}"
@@ -143,32 +190,38 @@ fn several_words<'a>(both: BothWords<'a>, word: &'a Token, first: Bearer<'a>) ->
     Phrase::of_five(
         form,
         Part::Word(word),
-        Part::Number(both.count(looked)),
-        Part::Bearer(first),
-        bearer_part(second),
-        bearer_part(third),
+        Part::Number(bearers.count()),
+        bearer_part(bearers.nth(both, word, 0)),
+        bearer_part(bearers.nth(both, word, 1)),
+        bearer_part(bearers.nth(both, word, 2)),
     )
 }
 
-/// How the first of several entries with a name is told apart; where both records have one name, how the records are.
-fn apart_words<'a>(both: BothWords<'a>, word: &'a Token, first: Bearer<'a>) -> Phrase<'a> {
+/// How the first of several entries with a name is told apart: a condition by its item, where that does; where both records have one name, how the records are.
+fn apart_words<'a>(both: BothWords<'a>, word: &'a Token, bearers: Bearers) -> Option<Phrase<'a>> {
+    let first = bearers.nth(both, word, 0)?;
+    if bearers.conditions > 0 {
+        if let Some(words) = apart_by_item(both, word, first) {
+            return Some(words);
+        }
+    }
     match both.shared_name() {
-        Some(name) => Phrase::of(
+        Some(name) => Some(Phrase::of(
             "both records are named {}: --records-as in-out tells them apart",
             Part::Word(name),
-        ),
-        None => Phrase::of_two("write {} OF {}", Part::Word(word), first.book.record_part()),
+        )),
+        None => Some(Phrase::of_two("write {} OF {}", Part::Word(word), first.book.record_part())),
     }
 }
 
 /// What is told of a name that several entries have.
 pub(crate) fn told_ambiguous<'a>(both: BothWords<'a>, statement: &'a [Token]) -> Told<'a> {
     match ambiguous_name(both, statement) {
-        Some((word, first)) => advised(
-            Some(Caret::under(word)),
-            several_words(both, word, first),
-            apart_words(both, word, first),
-        ),
+        Some((word, bearers)) => Told {
+            at: Some(Caret::under(word)),
+            what: several_words(both, word, bearers),
+            hint: apart_words(both, word, bearers),
+        },
         None => said_plainly(
             statement,
             "several entries have a name of it with these qualifiers",

@@ -1,7 +1,10 @@
 //! Entries of a text that are looked for.
 
+use crate::conditions::first_value;
 use crate::entry::{behind_many, entry_at, level_of, name_word, words_from};
 use crate::near::is_near;
+use crate::statements::is_constant;
+use crate::terms::is_term;
 use cob_copybook_clauses::{WordClass, is_condition, sentence_at};
 use cob_source::Token;
 
@@ -19,6 +22,25 @@ pub(crate) enum Looked<'a> {
     Below(u32),
     /// Those of this level that begin an area.
     Area(u32),
+    /// Those of level 88 with this name that list values.
+    Condition(&'a [u8]),
+    /// Those of level 88 that list values, with a name that is near to it.
+    NearCondition(&'a [u8]),
+}
+
+impl Looked<'_> {
+    /// Whether entries of level 88 are looked for, and no others.
+    fn is_of_conditions(self) -> bool {
+        matches!(self, Looked::Condition(_) | Looked::NearCondition(_))
+    }
+}
+
+/// Whether an entry of level 88 lists values: one that doesn't names nothing.
+fn lists_values(entry: &[Token]) -> bool {
+    match first_value(entry) {
+        Some(word) => is_constant(word) || is_term(word, WordClass::All),
+        None => false,
+    }
 }
 
 /// Whether an entry has this name.
@@ -49,6 +71,8 @@ fn is_looked(entry: &[Token], looked: Looked<'_>) -> bool {
         Looked::Near(name) => has_near_name(entry, name),
         Looked::Below(level) => level_of(entry) < level,
         Looked::Area(level) => begins_area(entry, level),
+        Looked::Condition(name) => has_name(entry, name) && lists_values(entry),
+        Looked::NearCondition(name) => has_near_name(entry, name) && lists_values(entry),
     }
 }
 
@@ -87,8 +111,8 @@ pub(crate) fn found_between(words: &[Token], from: usize, end: usize, looked: Lo
         if before >= end {
             return found;
         }
-        let is_entry = before >= from && !is_condition(sentence);
-        if is_entry && is_looked(entry_at(words, before), looked) {
+        let may_be = before >= from && is_condition(sentence) == looked.is_of_conditions();
+        if may_be && is_looked(entry_at(words, before), looked) {
             found = with_entry(found, before);
         }
         before = before.saturating_add(sentence.len()).saturating_add(1);

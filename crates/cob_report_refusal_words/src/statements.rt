@@ -69,7 +69,7 @@ fn behind_subscripts(words: &[Token]) -> Read<'_> {
 }
 
 /// The words behind a name with its qualifiers and subscripts, or what lacks in it.
-fn behind_reference<'a>(words: &'a [Token], expected: &'static str) -> Read<'a> {
+pub(crate) fn behind_reference<'a>(words: &'a [Token], expected: &'static str) -> Read<'a> {
     let Some(more) = behind_name(words) else {
         return lacks(words, expected);
     };

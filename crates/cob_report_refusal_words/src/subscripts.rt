@@ -1,25 +1,15 @@
 //! Subscripts that do not fit.
 
-use crate::bearers::{Bearer, BothWords, meant};
+use crate::bearers::{Bearer, BothWords, condition_meant, meant};
+use crate::conditions::stands_alone;
 use crate::entry::{behind_many, front_of};
 use crate::phrases::{Part, Phrase};
-use crate::search::{MOST_LEVELS, holder_at};
+use crate::search::MOST_LEVELS;
 use crate::tables::greatest_number;
 use crate::terms::{behind, is_name_word, is_term, whole};
 use crate::told::{Caret, Told, advised, advised_at, advised_plainly};
 use cob_copybook_clauses::{WordClass, qualifiers_at};
 use cob_source::Token;
-
-/// What holds an entry, if something does.
-fn holder<'a>(bearer: Bearer<'a>) -> Option<Bearer<'a>> {
-    match holder_at(bearer.book.words, bearer.before) {
-        Some(before) => Some(Bearer {
-            book: bearer.book,
-            before,
-        }),
-        None => None,
-    }
-}
 
 /// How many elements the table has that holds so many tables round an entry, or that the entry is itself; nothing where there are no more.
 fn table_round(bearer: Bearer<'_>, place: usize) -> Option<u32> {
@@ -32,7 +22,7 @@ fn table_round(bearer: Bearer<'_>, place: usize) -> Option<u32> {
             }
             left = left.saturating_sub(1);
         }
-        at = holder(at)?;
+        at = at.holder()?;
     }
     None
 }
@@ -150,10 +140,24 @@ fn told_written<'a>(bearer: Bearer<'_>, name: &'a Token, written: &'a [Token]) -
     told_first(bearer, name, written)
 }
 
-/// What is told of the subscripts of the name in front, which is this word, if they do not fit.
-fn told_name<'a>(both: BothWords<'_>, name: &'a Token, words: &'a [Token]) -> Option<Told<'a>> {
-    match meant(both, words) {
-        Some(bearer) => told_written(bearer, name, subscripts_of(words)),
+/// What the name of a statement means that so many words stand before: where it stands alone in a test the condition with that name, if one is, or else the entry.
+fn meant_at<'a>(both: BothWords<'a>, statement: &[Token], at: usize) -> Option<Bearer<'a>> {
+    let words = behind_many(statement, at);
+    if stands_alone(statement, at) {
+        return condition_meant(both, words).or(meant(both, words));
+    }
+    meant(both, words)
+}
+
+/// What is told of the subscripts of the name that so many words of a statement stand before, which is this word, if they do not fit.
+fn told_name<'a>(
+    both: BothWords<'_>,
+    name: &'a Token,
+    statement: &'a [Token],
+    at: usize,
+) -> Option<Told<'a>> {
+    match meant_at(both, statement, at) {
+        Some(bearer) => told_written(bearer, name, subscripts_of(behind_many(statement, at))),
         None => None,
     }
 }
@@ -163,7 +167,7 @@ pub(crate) fn told_subscripts<'a>(both: BothWords<'_>, statement: &'a [Token]) -
     let mut qualifies = false;
     for (at, word) in statement.iter().enumerate() {
         if is_name_word(word) && !qualifies {
-            if let Some(told) = told_name(both, word, behind_many(statement, at)) {
+            if let Some(told) = told_name(both, word, statement, at) {
                 return told;
             }
         }

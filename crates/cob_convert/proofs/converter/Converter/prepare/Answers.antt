@@ -1,4 +1,4 @@
-use Rattle.std.proofs.Common.{◌∙◌, ap, subst, sym}
+use Rattle.std.proofs.Common.{◌∙◌, ◌≡◌, ap, subst, sym}
 use Rattle.std.proofs.lemmas.Result.{err_from_is_err_and}
 use Rattle.cob_copybook.specs.Books.{IsBookOf}
 use Rattle.cob_copybook.specs.declared.role.Role.TheVariants.{In, Out}
@@ -64,8 +64,8 @@ returns-in_err-conversion-clause-only c = λ m says fits.
     let input = (c.in_ok-input.ensures.only m.records.input says.input).0 in
     let output = (c.in_ok-output.ensures.only m.records.output says.output).0 in
     let names : PlainConditionNames = record { input = plain_condition_names c.as_slice.result.now; output = plain_condition_names c.as_slice-2.result.now } in
-    let in_same = rw c.as_slice.ensures.value ((c.in_ok-in_names.ensures.only says.names.input says.named.input).0) in
-    let out_same = rw c.as_slice-2.ensures.value ((c.in_ok-out_names.ensures.only says.names.output says.named.output).0) in
+    let in_same : plain_condition_names c.as_slice.result.now ≡ says.names.input = rw c.as_slice.ensures.value ((c.in_ok-in_names.ensures.only says.names.input says.named.input).0) in
+    let out_same : plain_condition_names c.as_slice-2.result.now ≡ says.names.output = rw c.as_slice-2.ensures.value ((c.in_ok-out_names.ensures.only says.names.output says.named.output).0) in
     rw (p.1, p.2) (c.in_err-conversion.ensures.only m.deeds (paragraph_named c.args.moves.now _ _ names says.names m.deeds in_same out_same
     (paragraph_too c.args.moves.now _ _ _ _ says.names m.deeds input output says.paragraph)))
 
