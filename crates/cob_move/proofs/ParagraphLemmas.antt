@@ -53,15 +53,15 @@ source_refused source.TooLong line text input output names is = inl is
 source_refused source.UnknownIndicator line text input output names is = inl is
 
 -- so does what refuses the words behind its heading
-pub body_refused : (text : List ℕ) (words body : List Lexeme) (e : Entries) (names : PlainConditionNames) (f : MoveFault) → AreParagraphWordsOf text words → IsBodyIn words body
-    → DeedsRefused f e body → AllMayBeNamed e → valued_in e ≡ all_values e.input.now e.output.now names → IsRefusalOf f text e.input.now e.output.now names
-body_refused text words body e names f are is refused named valued = inr (record {
+pub body_refused : (text : List ℕ) (words body : List Lexeme) (values : List (Bearer ValuedEntry)) (all : List Candidate) (input output : Forest Resolved) (names : PlainConditionNames) (f : MoveFault) → AreParagraphWordsOf text words → IsBodyIn words body
+    → IsBodyRefusal values f all input output body → all ≡ all_entries input output → values ≡ all_values input output names → IsRefusalOf f text input output names
+body_refused text words body values all input output names f are is refused named valued = inr (record {
   words = words;
   body = body;
   are_words = are;
   is_body = is;
-  refused = subst (λ (values : List (Bearer ValuedEntry)). IsBodyRefusal values f (all_entries e.input.now e.output.now) e.input.now e.output.now body) valued
-      (subst (λ (every : List Candidate). IsBodyRefusal (valued_in e) f every e.input.now e.output.now body) named refused);
+  refused = subst (λ (vs : List (Bearer ValuedEntry)). IsBodyRefusal vs f (all_entries input output) input output body) valued
+      (subst (λ (every : List Candidate). IsBodyRefusal values f every input output body) named refused);
 })
 
 -- ---- what a text does

@@ -11,4 +11,5 @@ returns-clause-found c = λ text are.
 pub returns-in_err-deeds-clause-fault : goal.returns-in_err-deeds-clause-fault
 returns-in_err-deeds-clause-fault c =
     let p = err_from_is_err_and c.from_residual-in_err-deeds.result c.from_residual-in_err-deeds.ensures.1 in
-    rw (p.1, p.2) (λ text are. body_refused text (lexemes c.args.words.now) (lexemes c.body_of-body.result.now) _ (plain_names c.args.names) c.in_err-deeds.field-0.0 are c.body_of-body.ensures c.in_err-deeds.ensures.fault c.in_ok-nameable.ensures.entries c.in_ok-nameable.ensures.values)
+    rw (p.1, p.2) (λ text are. body_refused text (lexemes c.args.words.now) (lexemes c.body_of-body.result.now) _ _ c.args.input.now c.args.output.now (plain_names c.args.names) c.in_err-deeds.field-0.0 are
+    c.body_of-body.ensures c.in_err-deeds.ensures.fault c.in_ok-nameable.ensures.entries c.in_ok-nameable.ensures.values)
