@@ -30,7 +30,7 @@ use Rattle.cob_move_tests.specs.Entries.{AllMayBeNamed, nameable, records_of, va
 use Rattle.cob_move.specs.Bodies.{AreCounters, HasPassage, IsBodyIn}
 use Rattle.cob_move.specs.Deeds.{AreDeeds, ComeFirst, IsTurnRefused}
 use Rattle.cob_move.specs.DeedsLaws.{DeedsBreakNoRule, OneDeeds}
-use Rattle.cob_move.specs.DeedsRead.{PassageComesTo, SaysDeeds, open_deeds}
+use Rattle.cob_move.specs.DeedsRead.{DeedsRefused, PassageComesTo, SaysDeeds, open_deeds}
 use Rattle.cob_move.specs.Loops.{AreLiteralWords, BodyRefused, SaysBody}
 use Rattle.cob_move.specs.MeaningLaws.{MeantAreMoves}
 use Rattle.cob_move.specs.Paragraphs.{AreDone, BreaksFormat, ComesToFew, IsBodyRefusal, IsLiteral, IsLiteralParagraphOf, IsParagraphOf, IsRefusalOf, PassageRefused}
