@@ -80,18 +80,28 @@ fn role_word<'a>(both: BothWords<'_>, statement: &'a [Token]) -> Option<&'a Toke
     None
 }
 
+/// What is told of a statement where a name is the role of a record that has another name.
+fn told_role<'a>(word: &'a Token) -> Told<'a> {
+    advised_at(
+        word,
+        Phrase::of("no record is named {}", Part::Word(word)),
+        "--records-as in-out names the records IN-RECORD and OUT-RECORD",
+    )
+}
+
+/// What is told of a statement where a name has not these qualifiers.
+fn told_unqualified<'a>(statement: &'a [Token]) -> Told<'a> {
+    said_plainly(
+        statement,
+        "no entry of the two records has a name of it with these qualifiers",
+    )
+}
+
 /// What is told of a statement whose names are not found with their qualifiers: of one that is the role of a record, or else plainly.
 fn told_qualifiers<'a>(both: BothWords<'_>, statement: &'a [Token]) -> Told<'a> {
     match role_word(both, statement) {
-        Some(word) => advised_at(
-            word,
-            Phrase::of("no record is named {}", Part::Word(word)),
-            "--records-as in-out names the records IN-RECORD and OUT-RECORD",
-        ),
-        None => said_plainly(
-            statement,
-            "no entry of the two records has a name of it with these qualifiers",
-        ),
+        Some(word) => told_role(word),
+        None => told_unqualified(statement),
     }
 }
 
