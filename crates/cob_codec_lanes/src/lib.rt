@@ -13,7 +13,8 @@
 //! front of them: of two readers of such items one reads, and the other takes the digits of what passed ([`LaneReader::take`], `AreLanesTaken`); a
 //! [`WideWriter`] writes them (`IsWideWriterOf`). [`LaneText::write`] leaves a text of digits (`AreShown` of specs/Texts.antt): what each byte
 //! shows of them, and what is added to it; [`WideText::write`] leaves one of up to thirty-two bytes likewise (`AreWidelyShown`).
-//! [`keeps_minus`] and [`keeps_minus_of_both`] say whether a minus stays with digits, and [`zeros_before`] how many of them are zeros in front.
+//! [`keeps_minus`] and [`keeps_minus_of_both`] say whether a minus stays with digits, and [`zeros_before`] how many of them are zeros in front. [`number_in`]
+//! is the number of sixteen digits.
 //!
 //! Texts are read by lanes too. [`LaneReader::numerals`] is a reader of items whose bytes are all characters of digits, as whole numbers
 //! (`AreNumeralsOf`). A text of at most thirty-two bytes stands in [`TextLanes`], with zeros behind it. [`DigitPlaces::digits`] takes the digits
@@ -101,4 +102,5 @@ pub use wide_read::WideRead;
 pub use wide_word::{WideWordReader, WideWordWriter};
 pub use wide_writer::WideWriter;
 pub use width::Width;
+pub use words::number_in;
 pub use writer::LaneWriter;

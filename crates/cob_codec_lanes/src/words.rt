@@ -138,7 +138,7 @@ fn fours_in(v: u8x16) -> u32x4
 
 /// The number of sixteen digits.
 #[inline(always)]
-pub(crate) fn number_in(v: u8x16) -> u64
+pub fn number_in(v: u8x16) -> u64
     ensures { AreTens v → result ≡ number_of v }
 {
     let fours = fours_in(v).to_array();

@@ -1,2 +1,3 @@
 pub mod LaidOutLemmas
 pub mod WordLemmas
+pub mod BesideLemmas

@@ -8,6 +8,9 @@
 //! The clauses `laid` of `laid_out`, `order` of `order_of_equals`.
 #![tactic(auto)]
 
+mod beside;
 mod laying;
+mod number_beside;
 
 pub use laying::{laid_out, order_of_equals};
+pub use number_beside::NumberBeside;

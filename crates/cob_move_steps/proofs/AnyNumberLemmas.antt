@@ -36,16 +36,21 @@ pub size_is : (i : Item) → storage_kind i ≡ kind.Binary → item_size i ≡ 
 size_is i e = ap (λ k. stored_size k i.picture) e
 
 -- what was read of a binary item is what was read of the item
+pub word_wanted : (from : Item) (wanted : ℕ) (s : ℤ) (reading : Reading) (bytes kept : List ℕ) (told minus : Bool) → storage_kind from ≡ kind.Binary → reading ≡ Pictured
+    → IsNumberRead (IsBinary (item_digits from) (signed from.picture.positions) (last_bytes (binary_length (item_digits from)) bytes)) wanted s told minus kept
+    → IsNumberRead (IsSentBy reading from (last_bytes (item_size from) bytes)) wanted s told minus kept
+word_wanted from wanted s reading bytes kept told minus is pictured read =
+    let sized : IsNumberRead (IsBinary (item_digits from) (signed from.picture.positions) (last_bytes (item_size from) bytes)) wanted s told minus kept =
+    subst (λ n. IsNumberRead (IsBinary (item_digits from) (signed from.picture.positions) (last_bytes n bytes)) wanted s told minus kept) (sym (size_is from is)) read in
+    let here : IsNumberRead (IsSentBy Pictured from (last_bytes (item_size from) bytes)) wanted s told minus kept =
+    subst (λ (f : StorageKind). IsNumberRead (SentAs Pictured f (is_leading from.sign) from.picture (last_bytes (item_size from) bytes)) wanted s told minus kept) (sym is) sized in
+    subst (λ (r : Reading). IsNumberRead (IsSentBy r from (last_bytes (item_size from) bytes)) wanted s told minus kept) (sym pictured) here
+
 pub word_read : (from to : Item) (reading : Reading) (bytes kept : List ℕ) (told minus : Bool) → storage_kind from ≡ kind.Binary → reading ≡ Pictured
     → IsNumberRead (IsBinary (item_digits from) (signed from.picture.positions) (last_bytes (binary_length (item_digits from)) bytes)) (item_digits to) (scale to.picture.positions -ℤ scale from.picture.positions) told minus kept
     → IsNumberRead (IsSentBy reading from (last_bytes (item_size from) bytes)) (item_digits to) (scale to.picture.positions -ℤ scale from.picture.positions) told minus kept
 word_read from to reading bytes kept told minus is pictured read =
-    let s : ℤ = scale to.picture.positions -ℤ scale from.picture.positions in
-    let sized : IsNumberRead (IsBinary (item_digits from) (signed from.picture.positions) (last_bytes (item_size from) bytes)) (item_digits to) s told minus kept =
-    subst (λ n. IsNumberRead (IsBinary (item_digits from) (signed from.picture.positions) (last_bytes n bytes)) (item_digits to) s told minus kept) (sym (size_is from is)) read in
-    let here : IsNumberRead (IsSentBy Pictured from (last_bytes (item_size from) bytes)) (item_digits to) s told minus kept =
-    subst (λ (f : StorageKind). IsNumberRead (SentAs Pictured f (is_leading from.sign) from.picture (last_bytes (item_size from) bytes)) (item_digits to) s told minus kept) (sym is) sized in
-    subst (λ (r : Reading). IsNumberRead (IsSentBy r from (last_bytes (item_size from) bytes)) (item_digits to) s told minus kept) (sym pictured) here
+    word_wanted from (item_digits to) (scale to.picture.positions -ℤ scale from.picture.positions) reading bytes kept told minus is pictured read
 
 -- what is written of a binary item is what is written of the item
 pub word_written : (to : Item) (minus : Bool) (ds new : List ℕ) → storage_kind to ≡ kind.Binary → new ≡ binary_form (item_digits to) (signed to.picture.positions && minus) ds → new ≡ received_form to minus ds

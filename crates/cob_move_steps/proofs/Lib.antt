@@ -17,3 +17,4 @@ pub mod LongLemmas
 pub mod LongTextLemmas
 pub mod LongReadLemmas
 pub mod LongNumeralLemmas
+pub mod UnitsLemmas

@@ -21,7 +21,7 @@ fn is_binary(item: &Item) -> bool
 }
 
 /// Whether an item is a binary number of at most sixteen digits.
-fn is_word_item(item: &Item) -> bool
+pub(crate) fn is_word_item(item: &Item) -> bool
     ensures { IsTrue result ↔ IsWordItem item.now }
 {
     is_number_item(item) && is_binary(item) && item.picture.digits() <= 16

@@ -10,7 +10,7 @@ use std::simd::prelude::*;
 
 /// The number of the binary item at the end of bytes, and none where there are fewer.
 #[inline(always)]
-fn read_word(reader: &BinaryReader, bytes: &[u8]) -> LanesRead
+pub(crate) fn read_word(reader: &BinaryReader, bytes: &[u8]) -> LanesRead
     ensures { IsWordRead reader.now bytes.now result.is_number result.minus result.digits }
 {
     if bytes.len() < reader.width.bytes() {

@@ -27,6 +27,9 @@
 //! - characters without insertions, of a sender that gives its bytes as they are: [`CharactersStep::prepare`] gives one, and
 //!   [`ConstantStep::prepare`] that of a constant, whose bytes `receive` makes once. [`copy_all`] copies bytes.
 //!
+//! [`UnitsReader`] reads the numbers of an item as counts of units, for those who compare them: [`UnitsReader::prepare`] gives one wherever lanes hold all of their
+//! digits.
+//!
 //! What each of them leaves in the receiver's bytes is what the rule says, in the same words; which number a sender gives, `Gives` of
 //! specs/Ends.antt says. What is left of a binary sender is so where its bytes are read as its picture says (`SuitsReading`): where they are sent
 //! whole, the move is that of `receive`. [`PicturedSteps`] are the steps of moves of such senders, in the words of [`MoveSteps`] but for that
@@ -81,6 +84,9 @@ mod text_running;
 mod text_step;
 mod text_writer;
 mod texts;
+mod units_preparing;
+mod units_reader;
+mod units_reading;
 mod wide_edit_preparing;
 mod wide_edit_running;
 mod wide_edit_step;
@@ -107,5 +113,7 @@ pub use step::NumberStep;
 pub use text_reader::TextReader;
 pub use text_step::TextStep;
 pub use text_writer::TextWriter;
+pub use units_reader::UnitsReader;
+pub use units_reading::signed_units;
 pub use wide_edit_step::WideEditStep;
 pub use wide_step::WideStep;
