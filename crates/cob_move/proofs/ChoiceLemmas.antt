@@ -368,7 +368,7 @@ test_refused law (why.Broken f) e ns a p q ws body others waiting taken old now 
   where
     later : {n : ℕ} (k : ℕ) → n ≡ now.read + k → now.read ≤ most_written_out → FirstInBranches e ns a (ABranch (Tested ws) body others) k → n ≤ most_written_out
     later k at within (inl none) = omega (arith, at, none, within)
-    later k at within (inr (u, si, more)) = absurd (law f.rule (records_of e) ns a ws u si refused.1)
+    later k at within (inr (u, si, more)) = absurd (law f.rule (records_of e) (valued_in e) ns a ws u si refused.1)
 
 pub statements_refused : DeedsBreakNoRule → (n : NotRead) (e : Entries) (ns : List Counted) (a : Against) (p q : Passage) (ws : List Lexeme) (body others : Passage) (waiting : Option code.Condition) (t : Condition) (taken : List TakenBranch) (old now : MadeLists)
     → AllMayBeNamed e → q ≡ ABranch (Tested ws) body others → IsBranchTestOf (records_of e) (valued_in e) ns a ws t → ReadsBranches e ns a p q waiting taken old now

@@ -135,7 +135,8 @@ fn ready_deeds(
     };
     let deeds = ReadyDeeds::new(moves, bounds, loops, tests, flows);
     let steady = deeds.with_steady_bounds(alloc, output)?;
-    Ok(steady)
+    let ready = steady.with_ready_tests(alloc, input, output)?;
+    Ok(ready)
 }
 
 /// Moves in order, and no test among them, ready to be carried out.

@@ -8,7 +8,12 @@ use crate::marked::MarkedMoves;
 use cob_move_data::StatementMoves;
 
 /// The statements from one number up to another.
-fn statements_from(statements: &[StatementMoves], begin: usize, end: usize) -> &[StatementMoves]
+#[inline(always)]
+pub(crate) fn statements_from(
+    statements: &[StatementMoves],
+    begin: usize,
+    end: usize,
+) -> &[StatementMoves]
     requires rises { begin ≤ end }
     requires within { end ≤ length statements.now }
     ensures { result.now ≡ items_between begin end statements.now }

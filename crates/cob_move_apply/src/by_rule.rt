@@ -36,13 +36,23 @@ fn most_receivers(statement: &StatementMoves) -> usize
     }
 }
 
+/// The greater of two numbers.
+fn greater(one: usize, other: usize) -> usize
+    ensures one { one ≤ result }
+    ensures other { other ≤ result }
+{
+    if one < other { other } else { one }
+}
+
 /// How many receivers a move of these statements has at most.
 fn most_of_all(statements: &[StatementMoves]) -> usize
     ensures { AllByRecursion (λ s. most_receivers s ≤ result) statements.now }
 {
     let mut most = 0;
-    for statement in statements {
-        most = most.max(most_receivers(statement));
+    let mut left = statements;
+    while let Some((statement, behind)) = left.split_first() {
+        most = greater(most, most_receivers(statement));
+        left = behind;
     }
     most
 }
@@ -60,8 +70,7 @@ pub(crate) fn unnoted_bases(
 {
     let most = most_of_all(statements);
     let mut bases = Vec::new(alloc);
-    bases.push(Basis::Counted(None))?;
-    for at in 0..most {
+    while bases.len() <= most {
         bases.push(Basis::Counted(None))?;
     }
     Ok(bases)
@@ -97,10 +106,10 @@ fn apply_single(
         (move_by layouts.now.reading (records layouts.now) single.now) input.now output.old result
         output.new space.old space.new }
 {
-    let count = single.receivers.len();
+    let entries = single.receivers.as_slice();
     let receivers = PlacedReceivers {
-        entries: single.receivers.as_slice(),
-        bases: &unnoted[1..count + 1],
+        entries,
+        bases: &unnoted[1..entries.len() + 1],
     };
     make_move(
         &single.sender,
@@ -310,9 +319,10 @@ pub(crate) fn apply_in(
         output.old space.new.output }
 {
     space.forget_output();
+    let steps = plan.steps.as_slice();
     let all = Chosen {
         statements: given,
-        steps: plan.steps.as_slice(),
+        steps,
         unnoted,
     };
     apply_chosen(given, plan, &all, layouts, input, output, space)

@@ -11,6 +11,7 @@ ghost use Rattle.cob_move_apply.specs.Reads.{ReadsOfMoves};
 ghost use Rattle.cob_move_apply.specs.Room.{room_of};
 ghost use Rattle.cob_move_apply.specs.Told.{most_moves_told, single_moves};
 
+use crate::between::statements_from;
 use crate::by_rule::{Chosen, apply_chosen, unnoted_bases};
 use crate::layouts::Layouts;
 use crate::marking::{Mark, marked_plan};
@@ -38,16 +39,6 @@ fn steps_between(steps: &[Step], begin: usize, end: usize) -> &[Step]
     ensures { result.now ≡ items_between begin end steps.now }
 {
     &steps[begin..end]
-}
-
-/// The statements from one number up to another.
-#[inline(always)]
-fn statements_between(statements: &[StatementMoves], begin: usize, end: usize) -> &[StatementMoves]
-    requires rises { begin ≤ end }
-    requires within { end ≤ length statements.now }
-    ensures { result.now ≡ items_between begin end statements.now }
-{
-    &statements[begin..end]
 }
 
 impl MarkedMoves {
@@ -197,10 +188,12 @@ impl MarkedMoves {
         };
         let statements = self.moves.statements.as_slice();
         let plan = &self.moves.plan;
+        let steps = plan.steps.as_slice();
+        let unnoted = self.moves.unnoted.as_slice();
         let all = Chosen {
             statements,
-            steps: plan.steps.as_slice(),
-            unnoted: self.moves.unnoted.as_slice(),
+            steps,
+            unnoted,
         };
         apply_chosen(
             statements,
@@ -267,10 +260,12 @@ impl MarkedMoves {
         let end = self.marks[to];
         let statements = self.moves.statements.as_slice();
         let plan = &self.moves.plan;
+        let steps = plan.steps.as_slice();
+        let unnoted = self.moves.unnoted.as_slice();
         let some = Chosen {
-            statements: statements_between(statements, begin.statement, end.statement),
-            steps: steps_between(plan.steps.as_slice(), begin.step, end.step),
-            unnoted: self.moves.unnoted.as_slice(),
+            statements: statements_from(statements, begin.statement, end.statement),
+            steps: steps_between(steps, begin.step, end.step),
+            unnoted,
         };
         apply_chosen(
             statements,

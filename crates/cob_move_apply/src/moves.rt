@@ -7,7 +7,7 @@ ghost use Rattle.cob_layout.specs.Storage.{greatest_length, IsStorage};
 ghost use Rattle.cob_layout_places.specs.Counts.{tables_of};
 ghost use Rattle.cob_move_data.specs.Moves.{AreMoves, Records, moves, moves_by, read_by, statement_moves_by};
 ghost use Rattle.cob_move_apply.specs.Applied.{Applied, ending};
-ghost use Rattle.cob_move_apply.specs.ByRule.{AreUnnoted};
+ghost use Rattle.cob_move_apply.specs.ByRule.{AreUnnoted, unnoted_is_fact};
 ghost use Rattle.cob_move_apply.specs.Joined.{steps_in};
 ghost use Rattle.cob_move_apply.specs.Met.{HaveMet};
 ghost use Rattle.cob_move_apply.specs.Told.{most_moves_told, single_moves};
@@ -46,7 +46,7 @@ pub struct Moves {
     pub(crate) unnoted: Vec<Basis>,
     /// How items are read that are sent.
     pub(crate) reading: Reading,
-    pub(crate) ghost room: { AreUnnoted statements.items unnoted.items },
+    pub(crate) ghost room: { AreUnnoted statements.items unnoted.items } by { unnoted_is_fact statements.items unnoted.items },
 }
 
 impl Moves {

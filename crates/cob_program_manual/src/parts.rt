@@ -19,12 +19,9 @@ pub(crate) enum Values<'a> {
     Words(&'a str),
 }
 
-/// The readings of which this one is the default.
-fn readings(default: &str) -> &'static str {
-    match default {
-        "strict" => "strict any",
-        _ => "pictured whole",
-    }
+/// Whether the reading with this default is one of zones.
+fn reads_zones(default: Option<&str>) -> bool {
+    matches!(default, Some("strict"))
 }
 
 /// What completes the value of this name, beside its default.
@@ -32,7 +29,8 @@ fn values_for<'a>(value: &str, default: Option<&'a str>) -> Values<'a> {
     match value {
         "<FILE>" => Values::Files,
         "<FORM>" => Values::Words("f v b"),
-        "<READING>" => Values::Words(readings(default.unwrap_or(""))),
+        "<READING>" if reads_zones(default) => Values::Words("strict any"),
+        "<READING>" => Values::Words("pictured whole"),
         "<LISTING>" => Values::Words("text json csv"),
         "<MEASURE>" => Values::Words("value bytes"),
         "<HOW>" => Values::Words("own in-out"),

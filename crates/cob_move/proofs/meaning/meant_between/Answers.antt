@@ -16,8 +16,8 @@ returns-clause-found c =
     let r : Records = record { input = c.args.input.now; output = c.args.output.now } in
     let ss = written_statements c.args.statements.now in
     IfOk-weaker c.meant_among.result (λ v. AreMeanings all r.input r.output ss (moves r v.items)) (λ v. AreMeant r.input r.output ss (moves r v.items))
-    (λ v is. meant_here all r ss v.items c.in_ok-names.ensures is) c.meant_among.ensures.found
+    (λ v is. meant_here all r ss v.items c.in_ok-names.ensures.entries is) c.meant_among.ensures.found
 
 pub returns-clause-fault : goal.returns-clause-fault
 returns-clause-fault c =
-    subst (λ (all : List Candidate). IfErr c.meant_among.result (λ f. SomeBroken f all c.args.input.now c.args.output.now (written_statements c.args.statements.now))) c.in_ok-names.ensures c.meant_among.ensures.fault
+    subst (λ (all : List Candidate). IfErr c.meant_among.result (λ f. SomeBroken f all c.args.input.now c.args.output.now (written_statements c.args.statements.now))) c.in_ok-names.ensures.entries c.meant_among.ensures.fault

@@ -8,8 +8,8 @@ use Rattle.cob_move_apply.specs.Surveyed.{records}
 use Rattle.cob_move_apply.proofs.ByRuleLemmas.{all_behind, all_front, all_spends, empty_of, gone_all, gone_next, gone_none, gone_stopped, stop_spends}
 use Rattle.cob_move_apply.proofs.by_rule.apply_by_rule.Goals as goal
 
-pub loop-statement-starts : goal.loop-statement-starts
-loop-statement-starts c =
+pub loop-statement-init : goal.loop-statement-init
+loop-statement-init c =
     let x = c.args.layouts.now.reading in
     let r : Records = records c.args.layouts.now in
     record {
@@ -55,7 +55,7 @@ loop-statement-preserved c =
     let r : Records = records c.args.layouts.now in
     record {
       gone = gone_next r (moves_by x r c.args.statements.now) (statement_moves_by x r c.in-Some.statement.now) (moves_by x r c.in-Some.behind.now) (moves_by x r c.loop-statement.left.now)
-          c.args.input.now c.args.output.now c.loop-statement.output c.apply_statement.new.output c.args.space.now.output c.loop-statement.space.output c.apply_statement.new.space.output _
+          c.args.input.now c.args.output.now c.loop-statement.output c.apply_statement.new.output c.args.space.now.output c.loop-statement.space.output c.apply_statement.new.space.output
           (ap (moves_by x r) c.in-Some.ensures.cases.0) c.loop-statement.invariant.gone c.in_ok-apply_statement.ensures.applied c.in_ok-apply_statement.ensures.spends;
       moves = all_behind (IsMove r) (statement_moves_by x r c.in-Some.statement.now) (moves_by x r c.in-Some.behind.now)
           (subst (λ (ss : List StatementMoves). AreMoves r (moves_by x r ss)) c.in-Some.ensures.cases.0 c.loop-statement.invariant.moves);
@@ -76,4 +76,4 @@ returns-clause-spends c =
     let x = c.args.layouts.now.reading in
     let r : Records = records c.args.layouts.now in
     all_spends r (moves_by x r c.args.statements.now) (moves_by x r c.loop-statement.left.now) c.args.input.now c.args.output.now c.loop-statement.output c.args.space.now.output
-    c.loop-statement.space.output _ (ap (moves_by x r) (empty_of c.loop-statement.left.now (omega (arith, c.in_default.ensures.cases)))) c.loop-statement.invariant.gone
+    c.loop-statement.space.output (ap (moves_by x r) (empty_of c.loop-statement.left.now (omega (arith, c.in_default.ensures.cases)))) c.loop-statement.invariant.gone

@@ -9,8 +9,8 @@ use Rattle.cob_move_apply.proofs.ByRuleLemmas.{all_spends, empty_of, gone_all, g
 use Rattle.cob_move_apply.proofs.StepLemmas.{made_one}
 use Rattle.cob_move_apply.proofs.by_rule.apply_pairs.Goals as goal
 
-pub loop-pair-starts : goal.loop-pair-starts
-loop-pair-starts c =
+pub loop-pair-init : goal.loop-pair-init
+loop-pair-init c =
     let x = c.args.layouts.now.reading in
     let r : Records = records c.args.layouts.now in
     let g = c.args.group.now in
@@ -63,7 +63,7 @@ loop-pair-preserved c =
     let moves = subst (λ (ps : List NumberedPair). AreMoves r (map (numbered_move_by x r g) ps)) c.in-Some.ensures.cases.0 c.loop-pair.invariant.moves in
     record {
       gone = gone_next r (statement_moves_by x r (Pairs g)) (m ∷ []) (map (numbered_move_by x r g) c.in-Some.behind.now) (map (numbered_move_by x r g) c.loop-pair.left.now)
-          c.args.input.now c.args.output.now c.loop-pair.output c.make_pair_move.new.output c.args.space.now.output c.loop-pair.space.output c.make_pair_move.new.space.output _
+          c.args.input.now c.args.output.now c.loop-pair.output c.make_pair_move.new.output c.args.space.now.output c.loop-pair.space.output c.make_pair_move.new.space.output
           (ap (map (numbered_move_by x r g)) c.in-Some.ensures.cases.0) c.loop-pair.invariant.gone
           (made_one r (m ∷ []) m c.args.input.now c.loop-pair.output _ refl c.in_ok-make_pair_move.ensures.moved) c.in_ok-make_pair_move.ensures.spends;
       moves = moves.1;
@@ -85,4 +85,4 @@ returns-clause-spends c =
     let r : Records = records c.args.layouts.now in
     let g = c.args.group.now in
     all_spends r (statement_moves_by x r (Pairs g)) (map (numbered_move_by x r g) c.loop-pair.left.now) c.args.input.now c.args.output.now c.loop-pair.output c.args.space.now.output
-    c.loop-pair.space.output _ (ap (map (numbered_move_by x r g)) (empty_of c.loop-pair.left.now (omega (arith, c.in_default.ensures.cases)))) c.loop-pair.invariant.gone
+    c.loop-pair.space.output (ap (map (numbered_move_by x r g)) (empty_of c.loop-pair.left.now (omega (arith, c.in_default.ensures.cases)))) c.loop-pair.invariant.gone

@@ -1,4 +1,4 @@
-use Rattle.std.proofs.Common.{false, inr, map, refl, sym, ◌∙◌}
+use Rattle.std.proofs.Common.{inr, map, refl, sym, ◌∙◌}
 use Rattle.cob_copybook_conditions.specs.Names.{plain_span}
 use Rattle.cob_move_data.specs.Moves.{operand_in, record_of}
 use Rattle.cob_move_tests.specs.Entries.{records_of}

@@ -1,7 +1,6 @@
-use Rattle.std.proofs.Common.{◌≡◌, ◌∙◌, ℕ, ap, true, List}
+use Rattle.std.proofs.Common.{◌≡◌, ◌∙◌, ℕ, ap, List}
 use Rattle.std.proofs.lemmas.Result.{IfOk-weaker}
 use Rattle.cob_copybook_entry.specs.Described.{plain_value}
-use Rattle.cob_move_condition.specs.declared.condition.Condition as code
 use Rattle.std.specs.declared.cmp.Ordering.TheVariants.{Less}
 use Rattle.cob_move_condition.specs.Conditions.{Both, Compares, Condition, Not, condition_of}
 use Rattle.cob_move_data.specs.Moves.{Literal, Records, Sender}

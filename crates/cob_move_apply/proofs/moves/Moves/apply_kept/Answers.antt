@@ -1,6 +1,6 @@
 use Rattle.std.proofs.Common.{◌≤◌, ◌+◌, ◌*◌, ℕ, List, length, subst, sym}
 use Rattle.cob_move_data.specs.declared.operands.StatementMoves.{StatementMoves}
-use Rattle.cob_move_data.specs.Moves.{Records, moves_by}
+use Rattle.cob_move_data.specs.Moves.{AreMoves, Records, moves_by}
 use Rattle.cob_move_apply.specs.Steps.{StandFor, support_of}
 use Rattle.cob_layout_places.specs.Counts.{tables_of}
 use Rattle.cob_move_apply.specs.Met.{HaveMet}
@@ -12,6 +12,13 @@ apply_in-requires-clause-steps c =
     let x = c.args.self.now.reading in
     subst (λ (ss : List StatementMoves). StandFor x r ss c.args.self.now.plan.steps.items (support_of c.args.self.now.plan) (moves_by x r ss)) (sym c.as_slice-statements.ensures.value)
     ((c.requires.prepared x).0)
+
+pub apply_in-requires-clause-moves : goal.apply_in-requires-clause-moves
+apply_in-requires-clause-moves c =
+    let r : Records = record { input = c.args.input_layout.now; output = c.args.output_layout.now } in
+    let x = c.args.self.now.reading in
+    let (stand, count, moves) = c.requires.prepared x in
+    subst (λ (ss : List StatementMoves). AreMoves r (moves_by x r ss)) (sym c.as_slice-statements.ensures.value) moves
 
 pub returns-clause-reads : goal.returns-clause-reads
 returns-clause-reads c =
