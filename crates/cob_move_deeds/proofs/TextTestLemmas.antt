@@ -88,55 +88,9 @@ test_says r entries reading c t input output holds test within is =
     subst (λ (k : Condition). Says (GivesIn r input output) (LacksIn r input output) (condition_of (λ n. sender_placed r reading (slice_get entries n)) k) (Ok holds)) (sym test.is)
     (subst (λ (s : Option PlacedEntry). SaysRelation (GivesIn r input output) (LacksIn r input output) (sender_placed r reading s) t.relation (Literal constant) (Ok holds)) (sym test.at) said)
 
--- ---- what is made ready of conditions
-
--- that of one is so
-pub test_is : (r : Records) (entries : List PlacedEntry) (cs : List Condition) (ts : List (Option TextTest)) (n : ℕ) (c : Condition) (t : TextTest) → AreTextTests r entries cs ts
-    → slice_get cs n ≡ Some c → slice_get ts n ≡ Some (Some t) → IsTextTest r entries c t
-test_is r entries cs [] n c t are at is = absurd (cc)
-test_is r entries [] (x ∷ xs) n c t are at is = absurd are
-test_is r entries (d ∷ ds) (x ∷ xs) zero c t are at is =
-    subst (λ (k : Condition). IsTextTest r entries k t) (same_Some d c at) (subst (λ (y : Option TextTest). IfSome y (IsTextTest r entries d)) (same_Some x (Some t) is) are.0)
-test_is r entries (d ∷ ds) (x ∷ xs) (suc n) c t are at is = test_is r entries ds xs n c t are.1 at is
-
--- and so it is of one more
-pub one_more_test : (r : Records) (entries : List PlacedEntry) (cs : List Condition) (ts : List (Option TextTest)) (c : Condition) (rest : List Condition) (t : Option TextTest) → AreTextTests r entries cs ts
-    → drop (length ts) cs ≡ c ∷ rest → IfSome t (IsTextTest r entries c) → AreTextTests r entries cs (ts ++ t ∷ [])
-one_more_test r entries cs [] c rest t are left is = subst (λ (ds : List Condition). AreTextTests r entries ds (t ∷ [])) (sym left) (is, tt)
-one_more_test r entries [] (x ∷ xs) c rest t are left is = absurd are
-one_more_test r entries (d ∷ ds) (x ∷ xs) c rest t are left is = (are.0, one_more_test r entries ds xs c rest t are.1 left is)
-
--- and what is left is what stands behind it
-pub one_less : (cs : List Condition) (n : ℕ) (c : Condition) (rest : List Condition) → drop n cs ≡ c ∷ rest → drop (n + 1) cs ≡ rest
-one_less [] zero c rest left = absurd (cc)
-one_less [] (suc n) c rest left = absurd (cc)
-one_less (d ∷ ds) zero c rest left = search
-one_less (d ∷ ds) (suc n) c rest left =
-    let one_on : suc n + 1 ≡ suc (n + 1) = omega arith in
-    ap (λ (k : ℕ). drop k (d ∷ ds)) one_on ∙ one_less ds n c rest left
-
-pub all_placed : (r : Records) (entries : List PlacedEntry) (n : ℕ) (e : PlacedEntry) → AllByRecursion (IsPlacedEntry r) entries → slice_get entries n ≡ Some e → IsPlacedEntry r e
-all_placed r [] n e are at = absurd (cc)
-all_placed r (x ∷ xs) zero e are at = subst (λ (y : PlacedEntry). IsPlacedEntry r y) (same_Some x e at) are.0
-all_placed r (x ∷ xs) (suc n) e are at = all_placed r xs n e are.1 at
-
 -- ---- as they are asked for
 
--- there is a condition with each number below their count
-pub some_condition : (cs : List Condition) (n : ℕ) → n < length cs → (c : Condition) × (slice_get cs n ≡ Some c)
-some_condition [] n lt = absurd (omega (arith, lt))
-some_condition (d ∷ ds) zero lt = (d, refl)
-some_condition (d ∷ ds) (suc n) lt = some_condition ds n (omega (arith, lt))
-
-pub some_so : {T : Type 0} (o : Option T) (P Q : T → Type 0) → ((t : T) → P t → Q t) → IfSome o P → IfSome o Q
-some_so None P Q f h = tt
-some_so (Some t) P Q f h = f t h
-
-pub tests_so : {V : Type 0} (items : V → List (Option TextTest)) (r : Records) (entries : List PlacedEntry) (cs : List Condition) (tests : Option V) (v : V) → tests ≡ Some v
-    → IfSome tests (λ w. AreTextTests r entries cs (items w)) → AreTextTests r entries cs (items v)
-tests_so items r entries cs tests v is so = subst (λ o. IfSome o (λ w. AreTextTests r entries cs (items w))) is so
-
-either_side : (P : Side → Type 0) → P In → P Out → (s : Side) → P s
+pub either_side : (P : Side → Type 0) → P In → P Out → (s : Side) → P s
 either_side P a b In = a
 either_side P a b Out = b
 

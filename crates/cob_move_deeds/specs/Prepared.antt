@@ -14,7 +14,7 @@ use Rattle.cob_move_deeds.specs.Deeds.{Deeds, moves_of_deeds}
 use Rattle.cob_move_deeds.specs.Flows.{AreFlows, FlowSupport, deeds_from, support_of}
 use Rattle.cob_move_deeds.specs.Steady.{AreSteady}
 use Rattle.cob_move_deeds.specs.Tests.{IsBound, Test}
-use Rattle.cob_move_deeds.specs.TextTests.{AreTextTests}
+use Rattle.cob_move_deeds.specs.ReadyTests.{AreReadyTests}
 
 -- what the flows of deeds rest on
 abbrev pub flow_support : ReadyDeeds → FlowSupport
@@ -50,7 +50,7 @@ pub record AreDeedsPrepared (r : Records) (d : ReadyDeeds) : Type 0 where
   pub asked : MayBeAsked r (flow_support d)
   pub flows : AreFlows (flow_support d) d.flows.items
   pub steady : IfSome d.steady (λ noted. AreSteady r d.moves d.bounds.items noted.items)
-  pub tests : IfSome d.tests (λ tests. AreTextTests r d.asked.entries.items d.asked.conditions.items tests.items)
+  pub tests : IfSome d.tests (λ tests. AreReadyTests r d.asked.entries.items d.asked.conditions.items tests.items)
 
 -- what lies between one mark and the next is done in one place, in their order: so the moves that may be carried out are those that were made ready
 abbrev pub HaveAllMoves : Records → ReadyDeeds → Type 0

@@ -1,5 +1,5 @@
 -- Comparisons of characters that are made ready before the first record comes.
-use Rattle.std.specs.Prelude.{◌≡◌, ℕ, false, List, [], ◌∷◌, Option, Some, IfSome}
+use Rattle.std.specs.Prelude.{◌≡◌, ℕ, false, List, Some}
 use Rattle.std.specs.List.{slice_get}
 use Rattle.cob_copybook_entry.specs.Described.{plain_value}
 use Rattle.cob_copybook_entry.specs.declared.value.Value.{Value}
@@ -25,9 +25,3 @@ pub record IsTextTest (r : Records) (entries : List PlacedEntry) (c : Condition)
   pub stands : IsFixed (record_of r entry.side) false (operand_in (record_of r entry.side) entry.entry) t.place
   pub plain : is_number_operand (Entry (operand_in (record_of r entry.side) entry.entry).kind) ≡ false
   pub laid : IsLaidOut (plain_value value) t.place.length t.laid.items
-
--- what is made ready of conditions, in their order: of the first so many of them
-abbrev pub AreTextTests : Records → List PlacedEntry → List Condition → List (Option TextTest) → Type 0
-AreTextTests r entries conditions [] = Unit {0}
-AreTextTests r entries [] (t ∷ ts) = ⊥
-AreTextTests r entries (c ∷ cs) (t ∷ ts) = IfSome t (IsTextTest r entries c) × AreTextTests r entries cs ts

@@ -1,7 +1,8 @@
 //! Flows carried out, one behind another.
 
-ghost use Rattle.std.specs.Prelude.{◌≡◌, ◌<◌, ◌≤◌, ◌∷◌, ℕ, length, IfErr, IfOk, IfSome, OnErr, Ok, Some};
+ghost use Rattle.std.specs.Prelude.{◌≡◌, ◌<◌, ◌≤◌, ◌∷◌, ℕ, length, IfErr, IfOk, IfSome, IsTrue, OnErr, Ok, Some};
 ghost use Rattle.std.specs.List.{AllByRecursion, slice_get};
+ghost use Rattle.cob_codec.specs.declared.reading.Reading.TheVariants.{Pictured};
 ghost use Rattle.cob_layout.specs.Storage.{greatest_length, IsStorage};
 ghost use Rattle.cob_move_apply.specs.Applied.{Applied, ending};
 ghost use Rattle.cob_move_apply.specs.Marked.{moves_between_marks};
@@ -25,8 +26,10 @@ use crate::giving::Giving;
 use crate::known::{KnownBound, KnownBounds};
 use crate::laws::tests_are_one;
 use crate::ready::ReadyDeeds;
+use crate::ready_test::ReadyTest;
 use crate::row::{behind, behind_skip, first_moves};
 use crate::sides::Sides;
+use cob_codec::Reading;
 use cob_layout::{one_outcome_of_counts, places_lie_in_storage};
 use cob_move_apply::{Scratch, Stop, one_ending};
 use cob_move_condition::says;
@@ -282,25 +285,48 @@ fn condition_said(
     says(&deeds.asked.conditions[number], &giving, scratch)
 }
 
-/// Whether the condition with this number holds, where it was made ready; None where it wasn't.
+/// Whether numbers are read as their pictures say.
+fn is_pictured(reading: Reading) -> bool
+    ensures { IsTrue result → reading ≡ Pictured }
+{
+    matches!(reading, Reading::Pictured)
+}
+
+/// Whether the condition with this number holds, where it was made ready; None where it wasn't. A number that was made ready is one that is read as its picture says.
+///
+/// # Errors
+///
+/// The first thing missing for it.
 #[inline(always)]
-fn ready_says(deeds: &ReadyDeeds, number: usize, sides: &Sides<'_>, output: &[u8]) -> Option<bool>
+fn ready_says(
+    deeds: &ReadyDeeds,
+    number: usize,
+    sides: &Sides<'_>,
+    output: &[u8],
+) -> Option<Result<bool, Stop>>
     requires prepared { AreDeedsPrepared (records_of_sides sides.now) deeds.now }
     requires there { number < length deeds.now.asked.conditions.items }
     requires input { IsStorage sides.now.input_layout.now sides.now.input.now }
     requires output { length output.now ≡ greatest_length sides.now.output_layout.now }
-    ensures { IfSome result (λ holds. (c : Condition)
+    ensures { IfSome result (λ said. (c : Condition)
         → slice_get deeds.now.asked.conditions.items number ≡ Some c
         → Judged (records_of_sides sides.now)
         (Holds (condition_of (sender_at (records_of_sides sides.now) (flow_support deeds.now)) c))
-        sides.now.input.now output.now (Ok holds)) }
+        sides.now.input.now output.now said) }
 {
     // A place that is the same in every storage lies within it.
     places_lie_in_storage();
     let _ = sides.input_layout.greatest();
     let _ = sides.output_layout.greatest();
-    let test = deeds.ready_test(number)?;
-    Some(test.holds(sides, output))
+    match deeds.ready_test(number)? {
+        ReadyTest::Text(test) => Some(Ok(test.holds(sides, output))),
+        ReadyTest::Number(test) => {
+            if !is_pictured(deeds.reading()) {
+                return None;
+            }
+            Some(test.says(sides, output))
+        }
+    }
 }
 
 /// Whether the condition with this number holds.
@@ -332,7 +358,7 @@ pub(crate) fn condition_says(
     ensures reads { ReadsFor sides.now.output_layout.now 0 result scratch.old scratch.new }
 {
     match ready_says(deeds, number, sides, output) {
-        Some(holds) => Ok(holds),
+        Some(said) => said,
         None => condition_said(deeds, number, sides, output, scratch),
     }
 }

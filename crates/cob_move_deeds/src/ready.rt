@@ -21,9 +21,9 @@ use crate::at_once::carry_all;
 use crate::choices::carry_out;
 use crate::flow::{Asked, Bound, CountedLoop, Flow};
 use crate::laws::tests_are_one;
+use crate::ready_test::ReadyTest;
 use crate::sides::Sides;
 use crate::steady::Stretch;
-use crate::text_test::TextTest;
 use cob_layout::Layout;
 use cob_move_apply::{MarkedMoves, Reading, Scratch, Stop, one_ending};
 use cob_move_data::StatementMoves;
@@ -54,7 +54,7 @@ pub struct ReadyDeeds {
     /// Between which marks moves leave each bound alone, by its number, where that was looked at.
     pub(crate) steady: Option<Vec<Option<Stretch>>>,
     /// What was made ready of each condition, by its number, where that was looked at.
-    pub(crate) tests: Option<Vec<Option<TextTest>>>,
+    pub(crate) tests: Option<Vec<Option<ReadyTest>>>,
     /// Whether the flows carry out all of the moves at once, which is found out before the first record comes.
     pub(crate) at_once: bool,
     pub(crate) ghost told: { at_once ≡ are_all_moves (length moves.marks.items) flows.items },

@@ -42,7 +42,7 @@ pub(crate) struct TextTest {
 }
 
 /// Whether an order is the one that is asked for.
-fn is_relation(relation: Ordering, order: Ordering) -> bool
+pub(crate) fn is_relation(relation: Ordering, order: Ordering) -> bool
     ensures { result ≡ is_relation relation order }
 {
     match relation {
@@ -53,7 +53,7 @@ fn is_relation(relation: Ordering, order: Ordering) -> bool
 }
 
 /// The storage of a side.
-fn storage_of<'a>(side: Side, sides: &Sides<'a>, output: &'a [u8]) -> &'a [u8]
+pub(crate) fn storage_of<'a>(side: Side, sides: &Sides<'a>, output: &'a [u8]) -> &'a [u8]
     ensures { result.now ≡ storage_of side sides.now.input.now output.now }
 {
     match side {
@@ -109,7 +109,7 @@ fn text_place(entry: &PlacedEntry, layout: &Layout) -> Option<Place>
 /// # Errors
 ///
 /// Where no memory is left.
-fn entry_test(
+pub(crate) fn entry_test(
     alloc: Global,
     entry: &PlacedEntry,
     relation: Ordering,
@@ -139,116 +139,4 @@ fn entry_test(
         relation,
         laid,
     }))
-}
-
-/// A condition made ready: a comparison of an entry that is no number with a constant; None of any other.
-///
-/// # Errors
-///
-/// Where no memory is left.
-fn text_test(
-    alloc: Global,
-    condition: &Condition,
-    entries: &[PlacedEntry],
-    input: &Layout,
-    output: &Layout,
-) -> Result<Option<TextTest>, AllocError>
-    requires placed { AllByRecursion
-        (IsPlacedEntry (record { input = input.now; output = output.now })) entries.now }
-    ensures { IfOk result (λ found. IfSome found
-        (IsTextTest (record { input = input.now; output = output.now }) entries.now condition.now)) }
-{
-    let Condition::Compares(Comparand::Entry(number), relation, Comparand::Constant(value)) =
-        condition
-    else {
-        return Ok(None);
-    };
-    let Some(entry) = entries.get(*number) else {
-        return Ok(None);
-    };
-    entry_test(alloc, entry, *relation, value, input, output)
-}
-
-/// What was made ready of the condition with this number, if anything was.
-fn test_at(tests: &[Option<TextTest>], number: usize) -> Option<&TextTest>
-    ensures { IfSome result (λ t. slice_get tests.now number ≡ Some (Some t.now)) }
-{
-    match tests.get(number) {
-        Some(Some(test)) => Some(test),
-        _ => None,
-    }
-}
-
-impl ReadyDeeds {
-    /// What is made ready of the conditions, in their order.
-    ///
-    /// # Errors
-    ///
-    /// Where no memory is left.
-    fn made_ready(
-        &self,
-        alloc: Global,
-        input: &Layout,
-        output: &Layout,
-    ) -> Result<Vec<Option<TextTest>>, AllocError>
-        requires prepared { AreDeedsPrepared
-            (record { input = input.now; output = output.now }) self.now }
-        ensures { IfOk result (λ tests. AreTextTests
-            (record { input = input.now; output = output.now }) self.now.asked.entries.items
-            self.now.asked.conditions.items tests.items) }
-    {
-        let mut tests = Vec::with_capacity(alloc, self.asked.conditions.len())?;
-        let mut rest = self.asked.conditions.as_slice();
-        while let Some((condition, more)) = rest.split_first() {
-            let entries = self.asked.entries.as_slice();
-            let test = text_test(alloc, condition, entries, input, output)?;
-            tests.push(test)?;
-            rest = more;
-        }
-        Ok(tests)
-    }
-
-    /// The same deeds, with what can be made ready of their conditions: a comparison of an entry that is no number, and stands at one place in every storage,
-    /// with a constant.
-    ///
-    /// # Errors
-    ///
-    /// Where no memory is left.
-    pub fn with_ready_tests(
-        self,
-        alloc: Global,
-        input: &Layout,
-        output: &Layout,
-    ) -> Result<ReadyDeeds, AllocError>
-        requires prepared { AreDeedsPrepared
-            (record { input = input.now; output = output.now }) self }
-        ensures deeds { IfOk result (λ d. (r : Records) → deeds_of r d ≡ deeds_of r self) }
-        ensures moves { IfOk result (λ d. d.moves ≡ self.moves) }
-        ensures prepared { IfOk result (λ d. AreDeedsPrepared
-            (record { input = input.now; output = output.now }) d) }
-    {
-        let tests = self.made_ready(alloc, input, output)?;
-        Ok(ReadyDeeds {
-            moves: self.moves,
-            bounds: self.bounds,
-            loops: self.loops,
-            asked: self.asked,
-            flows: self.flows,
-            steady: self.steady,
-            tests: Some(tests),
-            at_once: self.at_once,
-        })
-    }
-
-    /// What was made ready of the condition with this number, if anything was.
-    pub(crate) fn ready_test(&self, number: usize) -> Option<&TextTest>
-        ensures { IfSome result (λ t. (r : Records) (c : ConditionCode) → AreDeedsPrepared r self.now
-            → slice_get self.now.asked.conditions.items number ≡ Some c
-            → IsTextTest r self.now.asked.entries.items c t.now) }
-    {
-        match &self.tests {
-            Some(tests) => test_at(tests.as_slice(), number),
-            None => None,
-        }
-    }
 }
