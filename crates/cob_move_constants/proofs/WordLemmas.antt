@@ -80,9 +80,25 @@ word_step n at xs ys one two within long bytes others is are =
     ∙ ap (λ (t : List ℕ). ordering_then (nat_cmp one two) (text_order t (drop n (drop at ys)))) (drop-drop n at xs)
     ∙ ap (λ (t : List ℕ). ordering_then (nat_cmp one two) (text_order (drop (at + n) xs) t)) (drop-drop n at ys)
 
+-- these decide where they differ, and else those behind do
+pub word_less : (n at : ℕ) (xs ys : List ℕ) (one two : ℕ) → at + n ≤ length xs → length xs ≡ length ys → AreBytes xs → AreBytes ys → one ≡ big_endian 0 (take n (drop at xs)) → two ≡ big_endian 0 (take n (drop at ys)) → one < two
+    → text_order (drop at xs) (drop at ys) ≡ Less
+word_less n at xs ys one two within long bytes others is are lt =
+    word_step n at xs ys one two within long bytes others is are ∙ ap (λ (o : Ordering). ordering_then o (text_order (drop (at + n) xs) (drop (at + n) ys))) (less one two lt)
+
+pub word_greater : (n at : ℕ) (xs ys : List ℕ) (one two : ℕ) → at + n ≤ length xs → length xs ≡ length ys → AreBytes xs → AreBytes ys → one ≡ big_endian 0 (take n (drop at xs)) → two ≡ big_endian 0 (take n (drop at ys)) → two < one
+    → text_order (drop at xs) (drop at ys) ≡ Greater
+word_greater n at xs ys one two within long bytes others is are lt =
+    word_step n at xs ys one two within long bytes others is are ∙ ap (λ (o : Ordering). ordering_then o (text_order (drop (at + n) xs) (drop (at + n) ys))) (greater one two lt)
+
+pub word_same : (n at : ℕ) (xs ys : List ℕ) (one two : ℕ) → at + n ≤ length xs → length xs ≡ length ys → AreBytes xs → AreBytes ys → one ≡ big_endian 0 (take n (drop at xs)) → two ≡ big_endian 0 (take n (drop at ys)) → one ≡ two
+    → text_order (drop at xs) (drop at ys) ≡ text_order (drop (at + n) xs) (drop (at + n) ys)
+word_same n at xs ys one two within long bytes others is are same =
+    word_step n at xs ys one two within long bytes others is are ∙ ap (λ (o : Ordering). ordering_then o (text_order (drop (at + n) xs) (drop (at + n) ys))) (equal one two same)
+
 -- ---- bytes that are read one by one
 
-reads : List ℕ → ℕ → ℕ → ℕ → List ℕ
+abbrev reads : List ℕ → ℕ → ℕ → ℕ → List ℕ
 reads xs at k zero = []
 reads xs at k (suc n) = get_or xs (at + k) 0 ∷ reads xs at (suc k) n
 

@@ -6,6 +6,7 @@ use Rattle.std.proofs.Common.{inl}
 use Rattle.std.proofs.lemmas.Option.{same_Some}
 use Rattle.std.specs.List.{AllByRecursion, slice_get}
 use Rattle.std.specs.declared.cmp.Ordering.{Ordering}
+use Rattle.cob_codec.specs.Readings.{keeping_zones}
 use Rattle.cob_codec.specs.declared.reading.Reading.{Reading}
 use Rattle.cob_copybook.specs.Books.{IsRecordDescription}
 use Rattle.cob_copybook_entry.specs.Described.{PlainValue, plain_value}
@@ -40,7 +41,7 @@ use Rattle.cob_move_deeds.proofs.GivingLemmas.{gives_at, lies_within}
 -- what is no number gives its bytes beside a constant
 plain_gives : (kind : Kind) (bytes : List ℕ) (reading : Reading) → is_number_operand (Entry kind) ≡ false → GivesBeside false kind bytes reading bytes
 plain_gives Group bytes reading plain = refl
-plain_gives (ItemKind i) bytes reading plain = subst (λ (b : Bool). MatchBool (false || not b) (bytes ≡ bytes) (GivesNumerals reading i bytes bytes)) (sym plain) refl
+plain_gives (ItemKind i) bytes reading plain = subst (λ (b : Bool). MatchBool (false || not b) (bytes ≡ bytes) (GivesNumerals (keeping_zones reading) i bytes bytes)) (sym plain) refl
 
 -- a field within a storage has as many bytes as its place says
 field_long : (p : Place) (storage : List ℕ) → p.offset + p.length ≤ length storage → length (field_of p storage) ≡ p.length

@@ -4,6 +4,7 @@ use Rattle.cob_back_moves.specs.Same.{IsSameRecord}
 use Rattle.cob_copybook.specs.Books.{IsBookOf, record_name}
 use Rattle.cob_copybook.specs.declared.role.Role.{Role}
 use Rattle.cob_copybook.specs.declared.role.Role.TheVariants.{In, Out}
+use Rattle.cob_copybook_conditions.specs.Names.{AreConditionNamesOf, PlainConditionName}
 use Rattle.cob_copybook_tree.specs.Forests.{Forest, NoEntries, AnEntry}
 use Rattle.cob_copybook_tree.specs.Nodes.{Resolved, is_group_kind}
 use Rattle.cob_program_roles.specs.declared.naming.Ways.{Ways}
@@ -28,13 +29,21 @@ abbrev pub DescribesNameable : Role → List ℕ → Type 0
 DescribesNameable role text = (t : Forest Resolved) × IsBookOf role text t × (may_be_named t ≡ true)
 
 -- A text describes in a role the record that another text describes, with this as its name: the records are one, but for their names.
-pub record DescribesNamed (role : Role) (name text named : List ℕ) : Type 0 where
+pub record DescribesRecordNamed (role : Role) (name text named : List ℕ) : Type 0 where
   pub before : Forest Resolved
   pub after : Forest Resolved
   pub described : IsBookOf role text before
   pub described_named : IsBookOf role named after
   pub same : IsSameRecord before after
   pub borne : name_of_record after ≡ Some name
+
+-- two texts have the same condition-names: behind the same entries, with the same names and values, in one order
+abbrev pub HaveSameConditionNames : (text named : List ℕ) → Type 0
+HaveSameConditionNames text named = (ns : List PlainConditionName) × AreConditionNamesOf text ns × AreConditionNamesOf named ns
+
+-- A text describes the record of another text with this as its name, and has the same condition-names.
+abbrev pub DescribesNamed : Role → (name text named : List ℕ) → Type 0
+DescribesNamed role name text named = DescribesRecordNamed role name text named × HaveSameConditionNames text named
 
 -- a text describes in a role this record, with the name of the role
 abbrev pub IsNamedIn : Role → Forest Resolved → List ℕ → Type 0

@@ -7,8 +7,16 @@ ghost use Rattle.cob_copybook.specs.Books.{IsBookOf, IsMemory, record_name};
 ghost use Rattle.cob_copybook_tree.specs.Forests.{Forest};
 ghost use Rattle.cob_copybook_tree.specs.Nodes.{Resolved, is_group_kind};
 ghost use Rattle.cob_copybook_tree.specs.declared.node.Node.TheViews.{out-Node};
-ghost use Rattle.cob_program_roles.specs.Named.{DescribesNameable, DescribesNamed, IsNamedIn, may_be_named, name_of_record};
+ghost use Rattle.cob_program_roles.specs.Named.{
+  DescribesNameable,
+  DescribesNamed,
+  DescribesRecordNamed,
+  IsNamedIn,
+  may_be_named,
+  name_of_record,
+};
 
+use crate::conditions::have_same_condition_names;
 use cob_back_moves::is_same_book;
 use cob_copybook::{Book, BookRule, Node, Role};
 use std::alloc::{AllocError, Global};
@@ -24,7 +32,7 @@ pub fn role_name(role: Role) -> &'static [u8]
 }
 
 /// Whether a text is refused for want of memory.
-fn is_memory(rule: BookRule) -> bool
+pub(crate) fn is_memory(rule: BookRule) -> bool
     ensures { Decides result (IsMemory rule) }
 {
     matches!(rule, BookRule::Memory)
@@ -120,7 +128,27 @@ fn is_named_in(alloc: Global, role: Role, book: &Book, named: &[u8]) -> Result<b
     }
 }
 
-/// Whether a text describes the record of another one, with the name of its role: all else is the same.
+/// Whether a text describes the record of another one, with the name of its role: all else of the record is the same.
+///
+/// # Errors
+///
+/// Where no memory is left.
+fn describes_record_named(
+    alloc: Global,
+    role: Role,
+    text: &[u8],
+    named: &[u8],
+) -> Result<bool, AllocError>
+    ensures { IfOk result (λ yes. Decides yes
+        (DescribesRecordNamed role (record_name role) text.now named.now)) }
+{
+    match book_of(alloc, role, text)? {
+        Some(before) => is_named_in(alloc, role, &before, named),
+        None => Ok(false),
+    }
+}
+
+/// Whether a text describes the record of another one, with the name of its role, and has the same condition-names: all else is the same.
 ///
 /// # Errors
 ///
@@ -134,8 +162,7 @@ pub(crate) fn describes_named(
     ensures { IfOk result (λ yes. Decides yes
         (DescribesNamed role (record_name role) text.now named.now)) }
 {
-    match book_of(alloc, role, text)? {
-        Some(before) => is_named_in(alloc, role, &before, named),
-        None => Ok(false),
-    }
+    let is_record = describes_record_named(alloc, role, text, named)?;
+    let has_conditions = have_same_condition_names(alloc, text, named)?;
+    Ok(is_record && has_conditions)
 }

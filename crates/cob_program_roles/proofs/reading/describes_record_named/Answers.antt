@@ -1,6 +1,6 @@
 use Rattle.std.proofs.Common.{sym, true≢false}
 use Rattle.cob_program_roles.proofs.NamedLemmas.{described_by}
-use Rattle.cob_program_roles.proofs.reading.describes_named.Goals as goal
+use Rattle.cob_program_roles.proofs.reading.describes_record_named.Goals as goal
 
 pub returns-in-Some : goal.returns-in-Some
 returns-in-Some c =
