@@ -10,8 +10,8 @@ ghost use Rattle.cob_decimal.specs.Decimal.{number_of};
 ghost use Rattle.cob_move_steps.specs.Ends.{SuitsReading};
 ghost use Rattle.cob_move_steps.specs.Units.{AreUnitsRead, IsUnitsReader, IsWantedRead};
 
-use crate::number_ends::NumberReader;
 use crate::ends_running::read_word;
+use crate::number_ends::NumberReader;
 use crate::units_reader::UnitsReader;
 use cob_codec_lanes::{LanesRead, number_in};
 use std::simd::prelude::*;
