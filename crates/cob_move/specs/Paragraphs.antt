@@ -57,8 +57,9 @@ ComesToFew values all input output p = (IsLiteral p → ⊥) → IsFewRead value
 
 -- ---- what a text does
 
--- The words of the text, whose records have these condition-names, are a passage, with loops and choices as they may be: each loop has a counter of its own, and one to an item has a table that bounds it
--- (M11). It comes to these deeds between the two records: moves in their order, and tests of loops to items and of choices between them.
+-- The words of the text are a passage, with loops and choices as they may be: each loop has a counter of its own, and one to an item has a table that bounds it
+-- (M11). It comes to these deeds between the two records, which have these condition-names: moves in their order, and tests of loops to items and of choices
+-- between them.
 pub record IsParagraphOf (text : List ℕ) (input output : Forest Resolved) (names : PlainConditionNames) (d : Deeds Test) : Type 0 where
   pub words : List Lexeme
   pub passage : Passage

@@ -145,8 +145,9 @@ fn deeds_of_text(
 }
 
 impl Paragraph {
-    /// The paragraph that a text is, between the records of two layouts, whose copybooks have these condition-names: the words of the text are MOVE statements, with loops round them, and come to moves in
-    /// order, and to tests of loops to items between them. (ANSI X3.23-1985, Nucleus: the MOVE statement; the PERFORM statement, Format 4.)
+    /// The paragraph that a text is, between the records of two layouts, whose copybooks have these condition-names. Its words are MOVE statements, with loops
+    /// and choices round them. They come to moves in order, and to tests of loops to items and of choices between them. (ANSI X3.23-1985, Nucleus: the MOVE
+    /// statement; the PERFORM statement, Format 4.)
     ///
     /// # Errors
     /// A rule that the text breaks, with the line of the statement that breaks it, or for a rule of the reference format that line itself.

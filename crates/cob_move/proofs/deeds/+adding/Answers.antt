@@ -1,42 +1,39 @@
-use Rattle.std.proofs.Common.{◌≡◌, ◌+◌, ◌-◌, ◌<◌, ◌≤◌, ◌++◌, ◌∷◌, [], List, ℕ, ◌∙◌, ap, arith, false, length, refl, subst, sym, true, Option, None, Some}
+use Rattle.std.proofs.Common.{◌≡◌, ◌+◌, ◌-◌, ◌<◌, ◌++◌, ◌∷◌, [], List, ℕ, ◌∙◌, ap, arith, false, length, refl, subst, sym, true, None}
 use Rattle.std.proofs.lemmas.List.{map-append}
 use Rattle.cob_limits.specs.Limits.{most_written_out}
-use Rattle.cob_move_choices.specs.Asked.{IsSubjectAsked, against}
-use Rattle.cob_move_choices.specs.Choices.{Against, IsBranchTestOf}
-use Rattle.cob_move_condition.specs.Conditions.{Condition as Meant, condition_of}
+use Rattle.cob_move_choices.specs.Asked.{against}
+use Rattle.cob_move_choices.specs.Choices.{Against}
 use Rattle.cob_move_condition.specs.declared.condition.Condition.{Condition}
-use Rattle.cob_move_loops.specs.declared.parts.ChoiceKind.{ChoiceKind}
 use Rattle.cob_move_tests.specs.Asked.{sender_named}
-use Rattle.cob_move_tests.specs.declared.entries.NamedEntry.{NamedEntry}
 use Rattle.std.specs.Prelude.{IfErr, OnOk}
-use Rattle.std.specs.Global.{Vec}
 use Rattle.std.proofs.lemmas.Result.{IfErr-weaker, IfOk-weaker, err_from_is_err_and}
 use Rattle.cob_source.specs.Tokens.{lexemes}
 use Rattle.cob_move_loops.specs.declared.front.PassageItem.{PassageItem}
 use Rattle.cob_move_loops.specs.Reading.{counters, item_front, written_bound, written_choice, written_loop, written_test}
 use Rattle.cob_move_loops.specs.declared.parts.BranchTest.{BranchTest}
-use Rattle.cob_move_loops.specs.Passages.{ARun, Branched, Otherwise, PassageFront, Tested, WrittenTest, kind_of}
-use Rattle.cob_move_loops.specs.Turns.{Counted, counter_at, in_turn}
-use Rattle.cob_move_deeds.specs.declared.flow.Bound.{Bound}
+use Rattle.cob_move_loops.specs.Passages.{ARun, Branched, Otherwise, PassageFront, Tested, WrittenTest}
+use Rattle.cob_move_loops.specs.Turns.{Counted, counter_at}
 use Rattle.cob_move_deeds.specs.declared.flow.Flow.{Flow}
 use Rattle.cob_move.specs.declared.made.NotRead.{NotRead}
 use Rattle.cob_move_loops.specs.declared.parts.Place.TheVariants as standing
 use Rattle.cob_move_loops.proofs.FrontLemmas.{front_size, front_smaller}
-use Rattle.cob_move_loops.proofs.PassageLemmas.{none_left, shorter, some_left}
+use Rattle.cob_move_loops.proofs.PassageLemmas.{shorter}
 use Rattle.cob_move_loops.proofs.WritingLemmas.{counters_more}
-use Rattle.cob_move.specs.declared.made.BranchFlows.{BranchFlows}
-use Rattle.cob_move.specs.DeedsRead.{AddsBranch, AddsBranches, AddsDeeds, AddsFront, AddsMoved, AddsTurns, BranchesRefused, FrontHasBounds, FrontRefused, HasGrown, HaveBounds, IsFrontRead, IsMade, IsWaiting, LeavesFront, LeftOfBranches, LoopRefused, MadeLists, MovedRefused, ReadsApart, ReadsTurns, TurnRefused, closed, flow_lists, in_its_turn, linked_branches, linked_turns, made_lists, open_statements, TakenBranch, taken_branch, taken_branches, TestNotRead, with_asked, with_one_more, without_flows}
-use Rattle.cob_move_tests.specs.Entries.{records_of, valued_in}
-use Rattle.cob_move.proofs.AskedLemmas.{against_front, or_tested_front, waiting_front, waiting_means}
-use Rattle.cob_move.proofs.ChoiceLemmas.{HasReadChoice, asked_grown, asked_made, apart_kept, begun, begun_grown, begun_made, branch_kept, choice_adds, choice_has_grown, choice_is_made, choice_not_read, choice_same, closed_asked, closed_branches, count_not_read, in_front_by, leaves_asked, left_begin, left_end, left_other, left_other_refused, left_statements_refused, left_taken, left_test_refused, left_waits, subject_not_read}
+use Rattle.cob_move.specs.DeedsRead.{AddsBranches, AddsDeeds, AddsFront, AddsMoved, AddsTurns, BranchesRefused, FrontHasBounds, FrontRefused, HasGrown, IsFrontRead, IsMade, LeavesFront, LeftOfBranches, MadeLists, MovedRefused, ReadsApart, TurnRefused, flow_lists, in_its_turn, made_lists, open_statements, TakenBranch, taken_branch, taken_branches, TestNotRead, with_asked}
+use Rattle.cob_move_tests.specs.Entries.{records_of}
+use Rattle.cob_move.proofs.AskedLemmas.{against_front}
+use Rattle.cob_move.proofs.ChoiceLemmas.{asked_grown, apart_kept, count_not_read, in_front_by, leaves_asked, left_begin, left_end, left_other, left_other_refused, left_test_refused, subject_not_read}
 use Rattle.cob_move.proofs.MadeLemmas.{forgotten_again, grown_both, grown_none, leaves_more, leaves_same, leaves_unbroken}
 use Rattle.cob_move.proofs.ReadingLemmas.{bounds_parted, branch_bounds, choice_bounds, deeds_end, deeds_first, deeds_more, deeds_refused, front_read, loop_bounds, pause_added}
-use Rattle.cob_move.proofs.TestedLemmas.{HasReadLoop, bound_for, bound_not_read, breaks_first, breaks_same, broken_left, closed_refused, emptied, first_refused, later_refused, loop_left, loop_same, never_refused, no_turn_comes, past_of, tested_added, tested_grown, tested_made, tried_first, tried_now, tried_step}
+use Rattle.cob_move.proofs.TestedLemmas.{bound_not_read, breaks_first, breaks_same, broken_left, first_refused, later_refused, never_refused, tried_first, tried_now, tried_step}
 use Rattle.cob_move.proofs.ChoosingLemmas.{otherwise_is}
-use Rattle.cob_move.proofs.CloseLemmas.{closed_made, closed_open}
 use Rattle.cob_move.proofs.LookLemmas.{next_sure, sure_breaks}
 use Rattle.cob_move.proofs.TurnsLemmas.{number_next, turn_refused, turns_begin, turns_end, turns_next}
+use Rattle.cob_move.proofs.deeds.+adding.Answers.Choices.{branch_may_be_read, branch_refused, branches_may_be_read, choice_added, choice_grown, choice_kept, choice_made, choice_refused, test_read, test_waits}
+use Rattle.cob_move.proofs.deeds.+adding.Answers.Loops.{loop_added, loop_grown, loop_kept, loop_made, loop_refused, turns_may_be_read}
 use Rattle.cob_move.proofs.deeds.+adding.Goals as goal
+mod Choices
+mod Loops
 
 pub add_passage-loop-item-init : goal.add_passage-loop-item-init
 add_passage-loop-item-init t c = record {
@@ -254,122 +251,22 @@ add_tested-returns-in_err-found-clause-kept t c =
     rw (p.1, p.2) (leaves_same c.in_err-found.field-0.0 (made_lists c.args.made.now))
 
 pub add_tested-try_turns-read-requires : goal.add_tested-try_turns-read-requires
-add_tested-try_turns-read-requires t c =
-    let b = c.in_ok-found.ensures.found in
-    let empty : c.replace-outside.new.dest.items ≡ [] = ap (λ (v : Vec Flow). v.items) c.replace-outside.ensures.after ∙ c.new.ensures.items in
-    let begin = emptied (made_lists c.close.new.self) c.replace-outside.new.dest.items empty ∙ ap without_flows c.in_ok-close.ensures.closed in (
-      omega (arith, c.decreases),
-      (
-        c.requires.named,
-        (
-          c.requires.pairs,
-          (
-            subst (λ (m : MadeLists). IsMade (records_of c.args.entries.now) m) (sym begin) (closed_made (records_of c.args.entries.now) (made_lists c.args.made.now) c.requires.made),
-            (
-              c.requires.bounds,
-              (
-                (empty, c.new-turns.ensures.items),
-                (
-                  ap open_statements begin ∙ closed_open (made_lists c.args.made.now),
-                  (
-                    lexemes c.args.words.now,
-                    past_of c.args.entries.now c.in_ok-found.found 0,
-                    c.requires.item,
-                    record { reference = b.reference; spelled = b.spelled; named = b.named; item = b.item },
-                  ),
-                ),
-              ),
-            ),
-          ),
-        ),
-      ),
-    )
+add_tested-try_turns-read-requires = turns_may_be_read
 
 pub add_tested-returns-in_err-behind-clause-fault : goal.add_tested-returns-in_err-behind-clause-fault
-add_tested-returns-in_err-behind-clause-fault t c =
-    let empty : c.replace-outside.new.dest.items ≡ [] = ap (λ (v : Vec Flow). v.items) c.replace-outside.ensures.after ∙ c.new.ensures.items in
-    let begin = emptied (made_lists c.close.new.self) c.replace-outside.new.dest.items empty ∙ ap without_flows c.in_ok-close.ensures.closed in
-    let p = err_from_is_err_and c.from_residual-in_err-behind.result c.from_residual-in_err-behind.ensures.1 in
-    rw (p.1, p.2) (closed_refused c.in_err-behind.field-0.0 c.args.entries.now (counters c.args.turn.now) (written_loop c.args.head.now) (lexemes c.args.body.now) (made_lists c.args.made.now) (subst (λ (m : MadeLists). LoopRefused c.in_err-behind.field-0.0 c.args.entries.now (counters c.args.turn.now) (written_loop c.args.head.now) (lexemes c.args.body.now) m) begin c.in_err-behind.ensures.fault))
+add_tested-returns-in_err-behind-clause-fault = loop_refused
 
 pub add_tested-returns-in_err-behind-clause-kept : goal.add_tested-returns-in_err-behind-clause-kept
-add_tested-returns-in_err-behind-clause-kept t c =
-    let empty : c.replace-outside.new.dest.items ≡ [] = ap (λ (v : Vec Flow). v.items) c.replace-outside.ensures.after ∙ c.new.ensures.items in
-    let begin = emptied (made_lists c.close.new.self) c.replace-outside.new.dest.items empty ∙ ap without_flows c.in_ok-close.ensures.closed in
-    let outside : c.replace-outside.result.items ≡ (closed (made_lists c.args.made.now)).flows = ap (λ (v : Vec Flow). v.items) c.replace-outside.ensures.value ∙ ap (λ (m : MadeLists). m.flows) c.in_ok-close.ensures.closed in
-    let p = err_from_is_err_and c.from_residual-in_err-behind.result c.from_residual-in_err-behind.ensures.1 in
-    rw (p.1, p.2) (loop_left c.in_err-behind.field-0.0 (made_lists c.args.made.now) (made_lists c.try_turns-read.new.made) c.replace-outside.result.items outside (subst (λ (m : MadeLists). LeavesFront c.in_err-behind.field-0.0 m (made_lists c.try_turns-read.new.made)) begin c.in_err-behind.ensures.kept))
+add_tested-returns-in_err-behind-clause-kept = loop_kept
 
 pub add_tested-returns-clause-added : goal.add_tested-returns-clause-added
-add_tested-returns-clause-added t c =
-    let empty : c.replace-outside.new.dest.items ≡ [] = ap (λ (v : Vec Flow). v.items) c.replace-outside.ensures.after ∙ c.new.ensures.items in
-    let begin = emptied (made_lists c.close.new.self) c.replace-outside.new.dest.items empty ∙ ap without_flows c.in_ok-close.ensures.closed in
-    let outside : c.replace-outside.result.items ≡ (closed (made_lists c.args.made.now)).flows = ap (λ (v : Vec Flow). v.items) c.replace-outside.ensures.value ∙ ap (λ (m : MadeLists). m.flows) c.in_ok-close.ensures.closed in
-    let turns = flow_lists c.try_turns-read.new.turns.items in
-    let now = made_lists c.try_turns-read.new.made in
-    let bound : Bound = record { most = c.in_ok-behind.behind - 1; item = c.new-item.result } in
-    let linked = linked_turns (length now.bounds) c.args.head.now.by c.args.head.now.from turns in
-    let so : HasReadLoop c.args.entries.now (counters c.args.turn.now) (written_loop c.args.head.now) (lexemes c.args.body.now) c.in_ok-found.found c.in_ok-behind.behind turns bound (made_lists c.args.made.now) now = record {
-      made = c.requires.made;
-      after = c.in_ok-behind.ensures.made;
-      grown = subst (λ (m : MadeLists). HasGrown m now) begin c.in_ok-behind.ensures.grown;
-      none = c.in_ok-behind.ensures.flows;
-      marked = c.in_ok-behind.ensures.marked;
-      bound = bound_for c.args.entries.now (in_turn (counters c.args.turn.now) false 0 (lexemes c.args.words.now)) c.in_ok-found.found (c.in_ok-behind.behind - 1) c.new-item.result c.new-item.ensures.side c.new-item.ensures.entry c.new-item.ensures.placed c.in_ok-found.ensures.found;
-      reads = λ p is. subst (λ (m : MadeLists). ReadsTurns c.args.entries.now (counters c.args.turn.now) (written_loop c.args.head.now) p c.in_ok-behind.behind turns m now) begin (c.in_ok-behind.ensures.read.2 p is);
-    } in
-    let same = loop_same (made_lists c.args.made.now) now bound c.push.new.self.items c.link_turns.new.flows.items c.replace-outside.result.items linked c.in_ok-push.ensures.items
-    (c.in_ok-link_turns.ensures ∙ ap (λ (k : ℕ). c.replace-outside.result.items ++ linked_turns k c.args.head.now.by c.args.head.now.from (flow_lists c.as_slice.result.now)) (c.len-bound.ensures ∙ c.try_turns-read.new.made.bounds.ok.0)
-    ∙ ap (λ (ts : List (Vec Flow)). c.replace-outside.result.items ++ linked_turns (length now.bounds) c.args.head.now.by c.args.head.now.from (flow_lists ts)) c.as_slice.ensures.value) outside in
-    tested_added c.args.entries.now (counters c.args.turn.now) (written_loop c.args.head.now) (lexemes c.args.words.now) (lexemes c.args.body.now) c.in_ok-found.found c.in_ok-behind.behind c.in_ok-behind.ensures.read.0 turns bound (made_lists c.args.made.now) now (made_lists (record { list = c.try_turns-read.new.made.list; ends = c.try_turns-read.new.made.ends; bounds = c.push.new.self; asked = c.try_turns-read.new.made.asked; conditions = c.try_turns-read.new.made.conditions; flows = c.link_turns.new.flows; read = c.try_turns-read.new.made.read })) c.requires.item c.in_ok-found.ensures.found c.in_ok-behind.ensures.read.1
-    c.in_ok-behind.ensures.some.0 c.in_ok-behind.ensures.some.1
-    (λ p is. no_turn_comes c.deeds_break_no_rule.ensures c.args.entries.now (in_its_turn (counters c.args.turn.now) (written_loop c.args.head.now) c.in_ok-behind.behind) p (lexemes c.args.body.now) c.requires.named now.read c.in_ok-behind.ensures.past is) so c.in_ok-behind.ensures.past c.one_deeds.ensures same
+add_tested-returns-clause-added = loop_added
 
 pub add_tested-returns-clause-made : goal.add_tested-returns-clause-made
-add_tested-returns-clause-made t c =
-    let empty : c.replace-outside.new.dest.items ≡ [] = ap (λ (v : Vec Flow). v.items) c.replace-outside.ensures.after ∙ c.new.ensures.items in
-    let begin = emptied (made_lists c.close.new.self) c.replace-outside.new.dest.items empty ∙ ap without_flows c.in_ok-close.ensures.closed in
-    let outside : c.replace-outside.result.items ≡ (closed (made_lists c.args.made.now)).flows = ap (λ (v : Vec Flow). v.items) c.replace-outside.ensures.value ∙ ap (λ (m : MadeLists). m.flows) c.in_ok-close.ensures.closed in
-    let turns = flow_lists c.try_turns-read.new.turns.items in
-    let now = made_lists c.try_turns-read.new.made in
-    let bound : Bound = record { most = c.in_ok-behind.behind - 1; item = c.new-item.result } in
-    let linked = linked_turns (length now.bounds) c.args.head.now.by c.args.head.now.from turns in
-    let so : HasReadLoop c.args.entries.now (counters c.args.turn.now) (written_loop c.args.head.now) (lexemes c.args.body.now) c.in_ok-found.found c.in_ok-behind.behind turns bound (made_lists c.args.made.now) now = record {
-      made = c.requires.made;
-      after = c.in_ok-behind.ensures.made;
-      grown = subst (λ (m : MadeLists). HasGrown m now) begin c.in_ok-behind.ensures.grown;
-      none = c.in_ok-behind.ensures.flows;
-      marked = c.in_ok-behind.ensures.marked;
-      bound = bound_for c.args.entries.now (in_turn (counters c.args.turn.now) false 0 (lexemes c.args.words.now)) c.in_ok-found.found (c.in_ok-behind.behind - 1) c.new-item.result c.new-item.ensures.side c.new-item.ensures.entry c.new-item.ensures.placed c.in_ok-found.ensures.found;
-      reads = λ p is. subst (λ (m : MadeLists). ReadsTurns c.args.entries.now (counters c.args.turn.now) (written_loop c.args.head.now) p c.in_ok-behind.behind turns m now) begin (c.in_ok-behind.ensures.read.2 p is);
-    } in
-    let same = loop_same (made_lists c.args.made.now) now bound c.push.new.self.items c.link_turns.new.flows.items c.replace-outside.result.items linked c.in_ok-push.ensures.items
-    (c.in_ok-link_turns.ensures ∙ ap (λ (k : ℕ). c.replace-outside.result.items ++ linked_turns k c.args.head.now.by c.args.head.now.from (flow_lists c.as_slice.result.now)) (c.len-bound.ensures ∙ c.try_turns-read.new.made.bounds.ok.0)
-    ∙ ap (λ (ts : List (Vec Flow)). c.replace-outside.result.items ++ linked_turns (length now.bounds) c.args.head.now.by c.args.head.now.from (flow_lists ts)) c.as_slice.ensures.value) outside in
-    tested_made c.args.entries.now (counters c.args.turn.now) (written_loop c.args.head.now) (lexemes c.args.body.now) c.in_ok-found.found c.in_ok-behind.behind turns bound (made_lists c.args.made.now) now (made_lists (record { list = c.try_turns-read.new.made.list; ends = c.try_turns-read.new.made.ends; bounds = c.push.new.self; asked = c.try_turns-read.new.made.asked; conditions = c.try_turns-read.new.made.conditions; flows = c.link_turns.new.flows; read = c.try_turns-read.new.made.read })) c.requires.bounds so same
+add_tested-returns-clause-made = loop_made
 
 pub add_tested-returns-clause-grown : goal.add_tested-returns-clause-grown
-add_tested-returns-clause-grown t c =
-    let empty : c.replace-outside.new.dest.items ≡ [] = ap (λ (v : Vec Flow). v.items) c.replace-outside.ensures.after ∙ c.new.ensures.items in
-    let begin = emptied (made_lists c.close.new.self) c.replace-outside.new.dest.items empty ∙ ap without_flows c.in_ok-close.ensures.closed in
-    let outside : c.replace-outside.result.items ≡ (closed (made_lists c.args.made.now)).flows = ap (λ (v : Vec Flow). v.items) c.replace-outside.ensures.value ∙ ap (λ (m : MadeLists). m.flows) c.in_ok-close.ensures.closed in
-    let turns = flow_lists c.try_turns-read.new.turns.items in
-    let now = made_lists c.try_turns-read.new.made in
-    let bound : Bound = record { most = c.in_ok-behind.behind - 1; item = c.new-item.result } in
-    let linked = linked_turns (length now.bounds) c.args.head.now.by c.args.head.now.from turns in
-    let so : HasReadLoop c.args.entries.now (counters c.args.turn.now) (written_loop c.args.head.now) (lexemes c.args.body.now) c.in_ok-found.found c.in_ok-behind.behind turns bound (made_lists c.args.made.now) now = record {
-      made = c.requires.made;
-      after = c.in_ok-behind.ensures.made;
-      grown = subst (λ (m : MadeLists). HasGrown m now) begin c.in_ok-behind.ensures.grown;
-      none = c.in_ok-behind.ensures.flows;
-      marked = c.in_ok-behind.ensures.marked;
-      bound = bound_for c.args.entries.now (in_turn (counters c.args.turn.now) false 0 (lexemes c.args.words.now)) c.in_ok-found.found (c.in_ok-behind.behind - 1) c.new-item.result c.new-item.ensures.side c.new-item.ensures.entry c.new-item.ensures.placed c.in_ok-found.ensures.found;
-      reads = λ p is. subst (λ (m : MadeLists). ReadsTurns c.args.entries.now (counters c.args.turn.now) (written_loop c.args.head.now) p c.in_ok-behind.behind turns m now) begin (c.in_ok-behind.ensures.read.2 p is);
-    } in
-    let same = loop_same (made_lists c.args.made.now) now bound c.push.new.self.items c.link_turns.new.flows.items c.replace-outside.result.items linked c.in_ok-push.ensures.items
-    (c.in_ok-link_turns.ensures ∙ ap (λ (k : ℕ). c.replace-outside.result.items ++ linked_turns k c.args.head.now.by c.args.head.now.from (flow_lists c.as_slice.result.now)) (c.len-bound.ensures ∙ c.try_turns-read.new.made.bounds.ok.0)
-    ∙ ap (λ (ts : List (Vec Flow)). c.replace-outside.result.items ++ linked_turns (length now.bounds) c.args.head.now.by c.args.head.now.from (flow_lists ts)) c.as_slice.ensures.value) outside in
-    tested_grown (made_lists c.args.made.now) now (made_lists (record { list = c.try_turns-read.new.made.list; ends = c.try_turns-read.new.made.ends; bounds = c.push.new.self; asked = c.try_turns-read.new.made.asked; conditions = c.try_turns-read.new.made.conditions; flows = c.link_turns.new.flows; read = c.try_turns-read.new.made.read })) bound linked so.grown same
+add_tested-returns-clause-grown = loop_grown
 
 pub add_passage-add_item-requires : goal.add_passage-add_item-requires
 add_passage-add_item-requires t c =
@@ -589,34 +486,7 @@ add_choice-returns-in_err-count_choice-clause-fault t c =
     (subst (λ (m : MadeLists). most_written_out < m.read + 1) c.in_ok-subject.ensures.same c.in_err-count_choice.ensures.fault.1))
 
 pub add_choice-add_branches-read-requires : goal.add_choice-add_branches-read-requires
-add_choice-add_branches-read-requires t c =
-    let r = records_of c.args.entries.now in
-    let begin = made_lists c.args.made.now in
-    let asked = c.read_subject.new.made.asked.items in
-    let (more, all, is) = c.in_ok-subject.ensures.asks in
-    let counted : made_lists c.count_choice.new.made ≡ begun begin asked = c.in_ok-count_choice.ensures.counted ∙ ap with_one_more c.in_ok-subject.ensures.same in
-    let few : begin.read + 1 ≤ most_written_out = subst (λ (m : MadeLists). m.read ≤ most_written_out) counted c.in_ok-count_choice.ensures.few in
-    let made : IsMade r (begun begin asked) = begun_made r begin asked (more, all, is) few c.requires.made in
-    let empty : c.replace-outside.new.dest.items ≡ [] = ap (λ (v : Vec Flow). v.items) c.replace-outside.ensures.after ∙ c.new.ensures.items in
-    let start = emptied (made_lists c.close.new.self) c.replace-outside.new.dest.items empty ∙ ap without_flows (c.in_ok-close.ensures.closed ∙ ap closed counted) in (
-      omega (arith, c.decreases),
-      (
-        c.requires.named,
-        (
-          c.requires.pairs,
-          (
-            subst (λ (m : MadeLists). IsMade r m) (sym start) (closed_made r (begun begin asked) made),
-            (
-              subst (λ (k : ChoiceKind). HaveBounds k (lexemes c.args.branches.now)) (sym c.kind_of-kind.ensures) c.requires.bounds,
-              (
-                subst (λ (ns : List NamedEntry). IsSubjectAsked ns c.in_ok-subject.subject) (sym (ap (λ (m : MadeLists). m.asked) start ∙ closed_asked (begun begin asked))) c.in_ok-subject.ensures.there,
-                ((empty, c.new-taken.ensures.items), ap open_statements start ∙ closed_open (begun begin asked)),
-              ),
-            ),
-          ),
-        ),
-      ),
-    )
+add_choice-add_branches-read-requires = branches_may_be_read
 
 pub add_item-add_choice-requires : goal.add_item-add_choice-requires
 add_item-add_choice-requires t c =
@@ -668,122 +538,13 @@ pub add_branches-loop-test-smaller : goal.add_branches-loop-test-smaller
 add_branches-loop-test-smaller t c = shorter (standing.Branches c.args.kind) (Branched (written_test c.in-Some.test) (lexemes c.in-Some.body.now)) (lexemes c.loop-test.rest.now) (lexemes c.in-Some.more.now) c.in-Some.ensures.found
 
 pub add_branches-loop-test-preserved-then-is_empty : goal.add_branches-loop-test-preserved-then-is_empty
-add_branches-loop-test-preserved-then-is_empty t c =
-    let e = c.args.entries.now in
-    let r = records_of e in
-    let ns = counters c.args.turn.now in
-    let begin = made_lists c.args.made.now in
-    let before = made_lists c.loop-test.made in
-    let asked = c.read_test.new.made.asked.items in
-    let now = with_asked before asked in
-    let rest = lexemes c.loop-test.rest.now in
-    let more = lexemes c.in-Some.more.now in
-    let ws = lexemes c.in-Tested.words.now in
-    let body = lexemes c.in-Some.body.now in
-    let a = against (sender_named r begin.asked) c.args.subject in
-    let (others, all, grows) = c.in_ok-own.ensures.asks in
-    let front = in_front_by c.args.kind (Branched (written_test c.in-Some.test) body) (Tested ws) body rest more (ap (λ (x : BranchTest). Branched (written_test x) body) c.in-Tested.is) c.in-Some.ensures.found c.in-Some.ensures.only in
-    let less = shorter (standing.Branches c.args.kind) (Branched (written_test c.in-Some.test) (lexemes c.in-Some.body.now)) rest more c.in-Some.ensures.found in
-    let held : against (sender_named r before.asked) c.args.subject ≡ a = sym (against_front r begin.asked before.asked c.args.subject c.loop-test.invariant.grown.asked c.requires.there) in
-    let is = subst (λ (x : Against). IsBranchTestOf r (valued_in c.args.entries.now) ns x ws (condition_of (sender_named r asked) c.in_ok-own.own)) held c.in_ok-own.ensures.found in
-    let means = λ (waits : Option Meant) (w : IsWaiting r before.asked c.loop-test.waiting waits).
-    waiting_means r asked c.loop-test.waiting waits c.in_ok-own.own c.in_ok-test.test (condition_of (sender_named r asked) c.in_ok-own.own) (waiting_front r before.asked asked c.loop-test.waiting waits (others, grows) w) refl
-    (c.in_ok-test.ensures.means (sender_named r asked)) in
-    let tested = c.in_ok-test.ensures.tested r asked (or_tested_front r before.asked asked c.loop-test.waiting (others, grows) c.loop-test.invariant.waits) c.in_ok-own.ensures.tested in
-    let bounds = branch_bounds c.args.kind (Tested ws) body rest more c.loop-test.invariant.bounds (omega (arith, less)) front.1 in
-    let new = made_lists c.read_test.new.made in
-    let same = c.in_ok-own.ensures.same in record {
-      left = subst (λ (m : MadeLists). LeftOfBranches e ns a c.args.kind (lexemes c.args.branches.now) more (Some c.in_ok-test.test) (taken_branches c.loop-test.taken.items) begin m) (sym same)
-          (left_waits e ns a c.args.kind (lexemes c.args.branches.now) rest more ws body c.loop-test.waiting c.in_ok-own.own c.in_ok-test.test (taken_branches c.loop-test.taken.items) begin before asked c.loop-test.invariant.left front
-          (none_left c.in-Some.body.now c.is_empty.result c.is_empty.ensures c.if-is_empty.true) (others, grows) is means tested);
-      fewer = omega (arith, c.loop-test.invariant.fewer, less);
-      bounds = bounds.1;
-      waits = tested;
-      made = subst (λ (m : MadeLists). IsMade r m) (sym same) (asked_made r before asked (others, all, grows) c.loop-test.invariant.made);
-      grown = subst (λ (m : MadeLists). HasGrown begin m) (sym same) (grown_both begin before now c.loop-test.invariant.grown (asked_grown before asked (others, grows)));
-      none = ap (λ (m : MadeLists). m.flows) same ∙ c.loop-test.invariant.none;
-      marked = ap open_statements same ∙ c.loop-test.invariant.marked;
-      pairs = c.loop-test.invariant.pairs;
-    }
+add_branches-loop-test-preserved-then-is_empty = test_waits
 
 pub add_branches-loop-test-preserved : goal.add_branches-loop-test-preserved
-add_branches-loop-test-preserved t c =
-    let e = c.args.entries.now in
-    let r = records_of e in
-    let ns = counters c.args.turn.now in
-    let begin = made_lists c.args.made.now in
-    let before = made_lists c.loop-test.made in
-    let asked = c.read_test.new.made.asked.items in
-    let now = with_asked before asked in
-    let rest = lexemes c.loop-test.rest.now in
-    let more = lexemes c.in-Some.more.now in
-    let ws = lexemes c.in-Tested.words.now in
-    let body = lexemes c.in-Some.body.now in
-    let a = against (sender_named r begin.asked) c.args.subject in
-    let (others, all, grows) = c.in_ok-own.ensures.asks in
-    let front = in_front_by c.args.kind (Branched (written_test c.in-Some.test) body) (Tested ws) body rest more (ap (λ (x : BranchTest). Branched (written_test x) body) c.in-Tested.is) c.in-Some.ensures.found c.in-Some.ensures.only in
-    let less = shorter (standing.Branches c.args.kind) (Branched (written_test c.in-Some.test) (lexemes c.in-Some.body.now)) rest more c.in-Some.ensures.found in
-    let held : against (sender_named r before.asked) c.args.subject ≡ a = sym (against_front r begin.asked before.asked c.args.subject c.loop-test.invariant.grown.asked c.requires.there) in
-    let is = subst (λ (x : Against). IsBranchTestOf r (valued_in c.args.entries.now) ns x ws (condition_of (sender_named r asked) c.in_ok-own.own)) held c.in_ok-own.ensures.found in
-    let means = λ (waits : Option Meant) (w : IsWaiting r before.asked c.loop-test.waiting waits).
-    waiting_means r asked c.loop-test.waiting waits c.in_ok-own.own c.in_ok-test.test (condition_of (sender_named r asked) c.in_ok-own.own) (waiting_front r before.asked asked c.loop-test.waiting waits (others, grows) w) refl
-    (c.in_ok-test.ensures.means (sender_named r asked)) in
-    let tested = c.in_ok-test.ensures.tested r asked (or_tested_front r before.asked asked c.loop-test.waiting (others, grows) c.loop-test.invariant.waits) c.in_ok-own.ensures.tested in
-    let bounds = branch_bounds c.args.kind (Tested ws) body rest more c.loop-test.invariant.bounds (omega (arith, less)) front.1 in
-    let new = made_lists c.add_branch.new.made in
-    let taken = taken_branches c.loop-test.taken.items in
-    let after = taken_branches c.add_branch.new.taken.items in
-    let adds = subst (λ (m : MadeLists). AddsBranch e ns c.in_ok-test.test body taken after m new) c.in_ok-own.ensures.same c.in_ok-add_branch.ensures.added in
-    let kept = branch_kept e ns c.in_ok-test.test body taken after now new c.loop-test.invariant.none tested adds in record {
-      left = left_taken c.one_deeds.ensures e ns a c.args.kind (lexemes c.args.branches.now) rest more ws body c.loop-test.waiting c.in_ok-own.own c.in_ok-test.test taken begin before new asked after c.loop-test.invariant.left front
-          (some_left c.in-Some.body.now c.is_empty.result c.is_empty.ensures c.if-is_empty.false) (others, grows) is means tested c.loop-test.invariant.none c.loop-test.invariant.marked adds;
-      fewer = omega (arith, c.loop-test.invariant.fewer, less);
-      bounds = bounds.1;
-      waits = tt;
-      made = kept.made;
-      grown = grown_both begin before new c.loop-test.invariant.grown (grown_both before now new (asked_grown before asked (others, grows)) kept.grown);
-      none = kept.none;
-      marked = kept.marked;
-      pairs = c.in_ok-add_branch.ensures.pairs;
-    }
+add_branches-loop-test-preserved = test_read
 
 pub add_branches-add_branch-requires : goal.add_branches-add_branch-requires
-add_branches-add_branch-requires t c =
-    let e = c.args.entries.now in
-    let r = records_of e in
-    let ns = counters c.args.turn.now in
-    let begin = made_lists c.args.made.now in
-    let before = made_lists c.loop-test.made in
-    let asked = c.read_test.new.made.asked.items in
-    let now = with_asked before asked in
-    let rest = lexemes c.loop-test.rest.now in
-    let more = lexemes c.in-Some.more.now in
-    let ws = lexemes c.in-Tested.words.now in
-    let body = lexemes c.in-Some.body.now in
-    let a = against (sender_named r begin.asked) c.args.subject in
-    let (others, all, grows) = c.in_ok-own.ensures.asks in
-    let front = in_front_by c.args.kind (Branched (written_test c.in-Some.test) body) (Tested ws) body rest more (ap (λ (x : BranchTest). Branched (written_test x) body) c.in-Tested.is) c.in-Some.ensures.found c.in-Some.ensures.only in
-    let less = shorter (standing.Branches c.args.kind) (Branched (written_test c.in-Some.test) (lexemes c.in-Some.body.now)) rest more c.in-Some.ensures.found in
-    let held : against (sender_named r before.asked) c.args.subject ≡ a = sym (against_front r begin.asked before.asked c.args.subject c.loop-test.invariant.grown.asked c.requires.there) in
-    let is = subst (λ (x : Against). IsBranchTestOf r (valued_in c.args.entries.now) ns x ws (condition_of (sender_named r asked) c.in_ok-own.own)) held c.in_ok-own.ensures.found in
-    let means = λ (waits : Option Meant) (w : IsWaiting r before.asked c.loop-test.waiting waits).
-    waiting_means r asked c.loop-test.waiting waits c.in_ok-own.own c.in_ok-test.test (condition_of (sender_named r asked) c.in_ok-own.own) (waiting_front r before.asked asked c.loop-test.waiting waits (others, grows) w) refl
-    (c.in_ok-test.ensures.means (sender_named r asked)) in
-    let tested = c.in_ok-test.ensures.tested r asked (or_tested_front r before.asked asked c.loop-test.waiting (others, grows) c.loop-test.invariant.waits) c.in_ok-own.ensures.tested in
-    let bounds = branch_bounds c.args.kind (Tested ws) body rest more c.loop-test.invariant.bounds (omega (arith, less)) front.1 in
-    let small = front_smaller (standing.Branches c.args.kind) (Branched (Tested ws) body) rest more front.0 in (
-      omega (arith, c.decreases, small, c.loop-test.invariant.fewer),
-      (
-        c.requires.named,
-        (
-          c.loop-test.invariant.pairs,
-          (
-            subst (λ (m : MadeLists). IsMade r m) (sym c.in_ok-own.ensures.same) (asked_made r before asked (others, all, grows) c.loop-test.invariant.made),
-            bounds.0,
-          ),
-        ),
-      ),
-    )
+add_branches-add_branch-requires = branch_may_be_read
 
 pub add_branches-returns-in_err-own-clause-fault : goal.add_branches-returns-in_err-own-clause-fault
 add_branches-returns-in_err-own-clause-fault t c =
@@ -805,46 +566,13 @@ add_branches-returns-in_err-own-clause-fault t c =
     (subst (λ (x : Against). TestNotRead n e ns x ws) held c.in_err-own.ensures.fault))
 
 pub add_branches-returns-in_err-add_branch-clause-fault : goal.add_branches-returns-in_err-add_branch-clause-fault
-add_branches-returns-in_err-add_branch-clause-fault t c =
-    let e = c.args.entries.now in
-    let r = records_of e in
-    let ns = counters c.args.turn.now in
-    let begin = made_lists c.args.made.now in
-    let before = made_lists c.loop-test.made in
-    let asked = c.read_test.new.made.asked.items in
-    let now = with_asked before asked in
-    let rest = lexemes c.loop-test.rest.now in
-    let more = lexemes c.in-Some.more.now in
-    let ws = lexemes c.in-Tested.words.now in
-    let body = lexemes c.in-Some.body.now in
-    let a = against (sender_named r begin.asked) c.args.subject in
-    let (others, all, grows) = c.in_ok-own.ensures.asks in
-    let front = in_front_by c.args.kind (Branched (written_test c.in-Some.test) body) (Tested ws) body rest more (ap (λ (x : BranchTest). Branched (written_test x) body) c.in-Tested.is) c.in-Some.ensures.found c.in-Some.ensures.only in
-    let less = shorter (standing.Branches c.args.kind) (Branched (written_test c.in-Some.test) (lexemes c.in-Some.body.now)) rest more c.in-Some.ensures.found in
-    let held : against (sender_named r before.asked) c.args.subject ≡ a = sym (against_front r begin.asked before.asked c.args.subject c.loop-test.invariant.grown.asked c.requires.there) in
-    let is = subst (λ (x : Against). IsBranchTestOf r (valued_in c.args.entries.now) ns x ws (condition_of (sender_named r asked) c.in_ok-own.own)) held c.in_ok-own.ensures.found in
-    let means = λ (waits : Option Meant) (w : IsWaiting r before.asked c.loop-test.waiting waits).
-    waiting_means r asked c.loop-test.waiting waits c.in_ok-own.own c.in_ok-test.test (condition_of (sender_named r asked) c.in_ok-own.own) (waiting_front r before.asked asked c.loop-test.waiting waits (others, grows) w) refl
-    (c.in_ok-test.ensures.means (sender_named r asked)) in
-    let tested = c.in_ok-test.ensures.tested r asked (or_tested_front r before.asked asked c.loop-test.waiting (others, grows) c.loop-test.invariant.waits) c.in_ok-own.ensures.tested in
-    let bounds = branch_bounds c.args.kind (Tested ws) body rest more c.loop-test.invariant.bounds (omega (arith, less)) front.1 in
-    let n = c.in_err-add_branch.field-0.0 in
-    let p = err_from_is_err_and c.from_residual-in_err-add_branch.result c.from_residual-in_err-add_branch.ensures.1 in
-    rw (p.1, p.2) (left_statements_refused c.deeds_break_no_rule.ensures n e ns a c.args.kind (lexemes c.args.branches.now) rest more ws body c.loop-test.waiting (condition_of (sender_named r asked) c.in_ok-own.own) (taken_branches c.loop-test.taken.items)
-    begin before asked c.requires.named c.loop-test.invariant.left front is (subst (λ (m : MadeLists). TurnRefused n e ns body m) c.in_ok-own.ensures.same c.in_err-add_branch.ensures.fault))
+add_branches-returns-in_err-add_branch-clause-fault = branch_refused
 
 pub add_branches-add_apart-requires : goal.add_branches-add_apart-requires
 add_branches-add_apart-requires t c =
-    let e = c.args.entries.now in
-    let r = records_of e in
-    let ns = counters c.args.turn.now in
-    let begin = made_lists c.args.made.now in
-    let before = made_lists c.loop-test.made in
-    let words = lexemes c.args.branches.now in
     let rest = lexemes c.loop-test.rest.now in
     let more = lexemes c.in-Some.more.now in
     let body = lexemes c.in-Some.body.now in
-    let a = against (sender_named r begin.asked) c.args.subject in
     let front = in_front_by c.args.kind (Branched (written_test c.in-Some.test) body) Otherwise body rest more (ap (λ (x : WrittenTest). Branched x body) (otherwise_is c.in-Some.test c.in_default-test.not-Tested)) c.in-Some.ensures.found c.in-Some.ensures.only in
     let less = shorter (standing.Branches c.args.kind) (Branched Otherwise body) rest more front.0 in
     let bounds = branch_bounds c.args.kind Otherwise body rest more c.loop-test.invariant.bounds (omega (arith, less)) front.1 in
@@ -873,18 +601,10 @@ add_branches-returns-in_default-test-clause-added t c =
 pub add_branches-returns-in_default-test-clause-marked : goal.add_branches-returns-in_default-test-clause-marked
 add_branches-returns-in_default-test-clause-marked t c =
     let e = c.args.entries.now in
-    let r = records_of e in
     let ns = counters c.args.turn.now in
-    let begin = made_lists c.args.made.now in
     let before = made_lists c.loop-test.made in
-    let words = lexemes c.args.branches.now in
-    let rest = lexemes c.loop-test.rest.now in
-    let more = lexemes c.in-Some.more.now in
     let body = lexemes c.in-Some.body.now in
-    let a = against (sender_named r begin.asked) c.args.subject in
-    let front = in_front_by c.args.kind (Branched (written_test c.in-Some.test) body) Otherwise body rest more (ap (λ (x : WrittenTest). Branched x body) (otherwise_is c.in-Some.test c.in_default-test.not-Tested)) c.in-Some.ensures.found c.in-Some.ensures.only in
     let new = made_lists c.add_apart.new.made in
-    let taken = taken_branches c.loop-test.taken.items in
     let inv = c.loop-test.invariant in
     IfOk-weaker c.add_apart.result (λ v. ReadsApart e ns body v.items before new) (λ v. open_statements new ≡ []) (λ v apart. (apart_kept e ns body v.items before new inv.none apart).marked) c.add_apart.ensures.apart
 
@@ -893,34 +613,20 @@ add_branches-returns-in_default-test-clause-made t c =
     let e = c.args.entries.now in
     let r = records_of e in
     let ns = counters c.args.turn.now in
-    let begin = made_lists c.args.made.now in
     let before = made_lists c.loop-test.made in
-    let words = lexemes c.args.branches.now in
-    let rest = lexemes c.loop-test.rest.now in
-    let more = lexemes c.in-Some.more.now in
     let body = lexemes c.in-Some.body.now in
-    let a = against (sender_named r begin.asked) c.args.subject in
-    let front = in_front_by c.args.kind (Branched (written_test c.in-Some.test) body) Otherwise body rest more (ap (λ (x : WrittenTest). Branched x body) (otherwise_is c.in-Some.test c.in_default-test.not-Tested)) c.in-Some.ensures.found c.in-Some.ensures.only in
     let new = made_lists c.add_apart.new.made in
-    let taken = taken_branches c.loop-test.taken.items in
     let inv = c.loop-test.invariant in
     IfOk-weaker c.add_apart.result (λ v. ReadsApart e ns body v.items before new) (λ v. IsMade r new) (λ v apart. (apart_kept e ns body v.items before new inv.none apart).made) c.add_apart.ensures.apart
 
 pub add_branches-returns-in_default-test-clause-grown : goal.add_branches-returns-in_default-test-clause-grown
 add_branches-returns-in_default-test-clause-grown t c =
     let e = c.args.entries.now in
-    let r = records_of e in
     let ns = counters c.args.turn.now in
     let begin = made_lists c.args.made.now in
     let before = made_lists c.loop-test.made in
-    let words = lexemes c.args.branches.now in
-    let rest = lexemes c.loop-test.rest.now in
-    let more = lexemes c.in-Some.more.now in
     let body = lexemes c.in-Some.body.now in
-    let a = against (sender_named r begin.asked) c.args.subject in
-    let front = in_front_by c.args.kind (Branched (written_test c.in-Some.test) body) Otherwise body rest more (ap (λ (x : WrittenTest). Branched x body) (otherwise_is c.in-Some.test c.in_default-test.not-Tested)) c.in-Some.ensures.found c.in-Some.ensures.only in
     let new = made_lists c.add_apart.new.made in
-    let taken = taken_branches c.loop-test.taken.items in
     let inv = c.loop-test.invariant in
     IfOk-weaker c.add_apart.result (λ v. ReadsApart e ns body v.items before new) (λ v. HasGrown begin new) (λ v apart. grown_both begin before new inv.grown (apart_kept e ns body v.items before new inv.none apart).grown) c.add_apart.ensures.apart
 
@@ -937,7 +643,6 @@ add_branches-returns-in_default-test-clause-fault t c =
     let body = lexemes c.in-Some.body.now in
     let a = against (sender_named r begin.asked) c.args.subject in
     let front = in_front_by c.args.kind (Branched (written_test c.in-Some.test) body) Otherwise body rest more (ap (λ (x : WrittenTest). Branched x body) (otherwise_is c.in-Some.test c.in_default-test.not-Tested)) c.in-Some.ensures.found c.in-Some.ensures.only in
-    let new = made_lists c.add_apart.new.made in
     let taken = taken_branches c.loop-test.taken.items in
     let inv = c.loop-test.invariant in
     IfErr-weaker c.add_apart.result (λ n. TurnRefused n e ns body before) (λ n. BranchesRefused n e ns a c.args.kind words begin)
@@ -945,19 +650,9 @@ add_branches-returns-in_default-test-clause-fault t c =
 
 pub add_branches-returns-in_default-test-clause-kept : goal.add_branches-returns-in_default-test-clause-kept
 add_branches-returns-in_default-test-clause-kept t c =
-    let e = c.args.entries.now in
-    let r = records_of e in
-    let ns = counters c.args.turn.now in
     let begin = made_lists c.args.made.now in
     let before = made_lists c.loop-test.made in
-    let words = lexemes c.args.branches.now in
-    let rest = lexemes c.loop-test.rest.now in
-    let more = lexemes c.in-Some.more.now in
-    let body = lexemes c.in-Some.body.now in
-    let a = against (sender_named r begin.asked) c.args.subject in
-    let front = in_front_by c.args.kind (Branched (written_test c.in-Some.test) body) Otherwise body rest more (ap (λ (x : WrittenTest). Branched x body) (otherwise_is c.in-Some.test c.in_default-test.not-Tested)) c.in-Some.ensures.found c.in-Some.ensures.only in
     let new = made_lists c.add_apart.new.made in
-    let taken = taken_branches c.loop-test.taken.items in
     let inv = c.loop-test.invariant in
     IfErr-weaker c.add_apart.result (λ n. LeavesFront n before new) (λ n. LeavesFront n begin new) (λ n left. leaves_more n begin before new inv.grown left) c.add_apart.ensures.kept
 
@@ -1004,175 +699,19 @@ add_branches-returns-clause-added t c =
     (made_lists c.loop-test.made) c.loop-test.invariant.left c.in_default.ensures.none)
 
 pub add_choice-returns-clause-added : goal.add_choice-returns-clause-added
-add_choice-returns-clause-added t c =
-    let e = c.args.entries.now in
-    let r = records_of e in
-    let ns = counters c.args.turn.now in
-    let choice = written_choice c.args.choice.now in
-    let words = lexemes c.args.branches.now in
-    let begin = made_lists c.args.made.now in
-    let asked = c.read_subject.new.made.asked.items in
-    let (more, all, is) = c.in_ok-subject.ensures.asks in
-    let old = begun begin asked in
-    let counted : made_lists c.count_choice.new.made ≡ old = c.in_ok-count_choice.ensures.counted ∙ ap with_one_more c.in_ok-subject.ensures.same in
-    let few : begin.read + 1 ≤ most_written_out = subst (λ (m : MadeLists). m.read ≤ most_written_out) counted c.in_ok-count_choice.ensures.few in
-    let marked : made_lists c.close.new.self ≡ closed old = c.in_ok-close.ensures.closed ∙ ap closed counted in
-    let empty : c.replace-outside.new.dest.items ≡ [] = ap (λ (v : Vec Flow). v.items) c.replace-outside.ensures.after ∙ c.new.ensures.items in
-    let start = emptied (made_lists c.close.new.self) c.replace-outside.new.dest.items empty ∙ ap without_flows marked in
-    let outside : c.replace-outside.result.items ≡ (closed old).flows = ap (λ (v : Vec Flow). v.items) c.replace-outside.ensures.value ∙ ap (λ (m : MadeLists). m.flows) marked in
-    let now = made_lists c.add_branches-read.new.made in
-    let a = against (sender_named r asked) c.in_ok-subject.subject in
-    let held : against (sender_named r c.close.new.self.asked.items) c.in_ok-subject.subject ≡ a =
-    ap (λ (es : List NamedEntry). against (sender_named r es) c.in_ok-subject.subject) (ap (λ (m : MadeLists). m.asked) marked ∙ closed_asked old) in
-    let taken = taken_branches c.add_branches-read.new.taken.items in
-    let other = c.in_ok-other.other.items in
-    let linked = linked_branches taken other in
-    let so : HasReadChoice e ns a (kind_of choice) words taken other old now = record {
-      made = begun_made r begin asked (more, all, is) few c.requires.made;
-      after = c.in_ok-other.ensures.made;
-      grown = subst (λ (m : MadeLists). HasGrown m now) start c.in_ok-other.ensures.grown;
-      none = c.in_ok-other.ensures.flows;
-      marked = c.in_ok-other.ensures.marked;
-      reads = subst (λ (k : ChoiceKind). AddsBranches e ns a k words taken other (without_flows (closed old)) now) c.kind_of-kind.ensures
-          (subst (λ (x : Against). AddsBranches e ns x c.kind_of-kind.result words taken other (without_flows (closed old)) now) held
-          (subst (λ (m : MadeLists). AddsBranches e ns (against (sender_named r c.close.new.self.asked.items) c.in_ok-subject.subject) c.kind_of-kind.result words taken other m now) start c.in_ok-other.ensures.added));
-    } in
-    let same = choice_same old now c.link_branches.new.flows.items c.replace-outside.result.items linked
-    (c.in_ok-link_branches.ensures ∙ ap (λ (bs : List BranchFlows). c.replace-outside.result.items ++ linked_branches (taken_branches bs) c.as_slice-2.result.now) c.as_slice.ensures.value
-    ∙ ap (λ (fs : List Flow). c.replace-outside.result.items ++ linked_branches taken fs) c.as_slice-2.ensures.value) outside in
-    choice_adds c.one_subject.ensures e ns choice a words taken other begin now _ asked c.requires.begins c.in_ok-subject.ensures.found (more, is) few so same
+add_choice-returns-clause-added = choice_added
 
 pub add_choice-returns-clause-made : goal.add_choice-returns-clause-made
-add_choice-returns-clause-made t c =
-    let e = c.args.entries.now in
-    let r = records_of e in
-    let ns = counters c.args.turn.now in
-    let choice = written_choice c.args.choice.now in
-    let words = lexemes c.args.branches.now in
-    let begin = made_lists c.args.made.now in
-    let asked = c.read_subject.new.made.asked.items in
-    let (more, all, is) = c.in_ok-subject.ensures.asks in
-    let old = begun begin asked in
-    let counted : made_lists c.count_choice.new.made ≡ old = c.in_ok-count_choice.ensures.counted ∙ ap with_one_more c.in_ok-subject.ensures.same in
-    let few : begin.read + 1 ≤ most_written_out = subst (λ (m : MadeLists). m.read ≤ most_written_out) counted c.in_ok-count_choice.ensures.few in
-    let marked : made_lists c.close.new.self ≡ closed old = c.in_ok-close.ensures.closed ∙ ap closed counted in
-    let empty : c.replace-outside.new.dest.items ≡ [] = ap (λ (v : Vec Flow). v.items) c.replace-outside.ensures.after ∙ c.new.ensures.items in
-    let start = emptied (made_lists c.close.new.self) c.replace-outside.new.dest.items empty ∙ ap without_flows marked in
-    let outside : c.replace-outside.result.items ≡ (closed old).flows = ap (λ (v : Vec Flow). v.items) c.replace-outside.ensures.value ∙ ap (λ (m : MadeLists). m.flows) marked in
-    let now = made_lists c.add_branches-read.new.made in
-    let a = against (sender_named r asked) c.in_ok-subject.subject in
-    let held : against (sender_named r c.close.new.self.asked.items) c.in_ok-subject.subject ≡ a =
-    ap (λ (es : List NamedEntry). against (sender_named r es) c.in_ok-subject.subject) (ap (λ (m : MadeLists). m.asked) marked ∙ closed_asked old) in
-    let taken = taken_branches c.add_branches-read.new.taken.items in
-    let other = c.in_ok-other.other.items in
-    let linked = linked_branches taken other in
-    let so : HasReadChoice e ns a (kind_of choice) words taken other old now = record {
-      made = begun_made r begin asked (more, all, is) few c.requires.made;
-      after = c.in_ok-other.ensures.made;
-      grown = subst (λ (m : MadeLists). HasGrown m now) start c.in_ok-other.ensures.grown;
-      none = c.in_ok-other.ensures.flows;
-      marked = c.in_ok-other.ensures.marked;
-      reads = subst (λ (k : ChoiceKind). AddsBranches e ns a k words taken other (without_flows (closed old)) now) c.kind_of-kind.ensures
-          (subst (λ (x : Against). AddsBranches e ns x c.kind_of-kind.result words taken other (without_flows (closed old)) now) held
-          (subst (λ (m : MadeLists). AddsBranches e ns (against (sender_named r c.close.new.self.asked.items) c.in_ok-subject.subject) c.kind_of-kind.result words taken other m now) start c.in_ok-other.ensures.added));
-    } in
-    let same = choice_same old now c.link_branches.new.flows.items c.replace-outside.result.items linked
-    (c.in_ok-link_branches.ensures ∙ ap (λ (bs : List BranchFlows). c.replace-outside.result.items ++ linked_branches (taken_branches bs) c.as_slice-2.result.now) c.as_slice.ensures.value
-    ∙ ap (λ (fs : List Flow). c.replace-outside.result.items ++ linked_branches taken fs) c.as_slice-2.ensures.value) outside in
-    choice_is_made e ns choice a words taken other old now _ c.requires.begins c.requires.bounds so same
+add_choice-returns-clause-made = choice_made
 
 pub add_choice-returns-clause-grown : goal.add_choice-returns-clause-grown
-add_choice-returns-clause-grown t c =
-    let e = c.args.entries.now in
-    let r = records_of e in
-    let ns = counters c.args.turn.now in
-    let choice = written_choice c.args.choice.now in
-    let words = lexemes c.args.branches.now in
-    let begin = made_lists c.args.made.now in
-    let asked = c.read_subject.new.made.asked.items in
-    let (more, all, is) = c.in_ok-subject.ensures.asks in
-    let old = begun begin asked in
-    let counted : made_lists c.count_choice.new.made ≡ old = c.in_ok-count_choice.ensures.counted ∙ ap with_one_more c.in_ok-subject.ensures.same in
-    let few : begin.read + 1 ≤ most_written_out = subst (λ (m : MadeLists). m.read ≤ most_written_out) counted c.in_ok-count_choice.ensures.few in
-    let marked : made_lists c.close.new.self ≡ closed old = c.in_ok-close.ensures.closed ∙ ap closed counted in
-    let empty : c.replace-outside.new.dest.items ≡ [] = ap (λ (v : Vec Flow). v.items) c.replace-outside.ensures.after ∙ c.new.ensures.items in
-    let start = emptied (made_lists c.close.new.self) c.replace-outside.new.dest.items empty ∙ ap without_flows marked in
-    let outside : c.replace-outside.result.items ≡ (closed old).flows = ap (λ (v : Vec Flow). v.items) c.replace-outside.ensures.value ∙ ap (λ (m : MadeLists). m.flows) marked in
-    let now = made_lists c.add_branches-read.new.made in
-    let a = against (sender_named r asked) c.in_ok-subject.subject in
-    let held : against (sender_named r c.close.new.self.asked.items) c.in_ok-subject.subject ≡ a =
-    ap (λ (es : List NamedEntry). against (sender_named r es) c.in_ok-subject.subject) (ap (λ (m : MadeLists). m.asked) marked ∙ closed_asked old) in
-    let taken = taken_branches c.add_branches-read.new.taken.items in
-    let other = c.in_ok-other.other.items in
-    let linked = linked_branches taken other in
-    let so : HasReadChoice e ns a (kind_of choice) words taken other old now = record {
-      made = begun_made r begin asked (more, all, is) few c.requires.made;
-      after = c.in_ok-other.ensures.made;
-      grown = subst (λ (m : MadeLists). HasGrown m now) start c.in_ok-other.ensures.grown;
-      none = c.in_ok-other.ensures.flows;
-      marked = c.in_ok-other.ensures.marked;
-      reads = subst (λ (k : ChoiceKind). AddsBranches e ns a k words taken other (without_flows (closed old)) now) c.kind_of-kind.ensures
-          (subst (λ (x : Against). AddsBranches e ns x c.kind_of-kind.result words taken other (without_flows (closed old)) now) held
-          (subst (λ (m : MadeLists). AddsBranches e ns (against (sender_named r c.close.new.self.asked.items) c.in_ok-subject.subject) c.kind_of-kind.result words taken other m now) start c.in_ok-other.ensures.added));
-    } in
-    let same = choice_same old now c.link_branches.new.flows.items c.replace-outside.result.items linked
-    (c.in_ok-link_branches.ensures ∙ ap (λ (bs : List BranchFlows). c.replace-outside.result.items ++ linked_branches (taken_branches bs) c.as_slice-2.result.now) c.as_slice.ensures.value
-    ∙ ap (λ (fs : List Flow). c.replace-outside.result.items ++ linked_branches taken fs) c.as_slice-2.ensures.value) outside in
-    choice_has_grown begin now _ asked linked (more, is) so.grown same
+add_choice-returns-clause-grown = choice_grown
 
 pub add_choice-returns-in_err-other-clause-fault : goal.add_choice-returns-in_err-other-clause-fault
-add_choice-returns-in_err-other-clause-fault t c =
-    let e = c.args.entries.now in
-    let r = records_of e in
-    let ns = counters c.args.turn.now in
-    let choice = written_choice c.args.choice.now in
-    let words = lexemes c.args.branches.now in
-    let begin = made_lists c.args.made.now in
-    let asked = c.read_subject.new.made.asked.items in
-    let (more, all, is) = c.in_ok-subject.ensures.asks in
-    let old = begun begin asked in
-    let counted : made_lists c.count_choice.new.made ≡ old = c.in_ok-count_choice.ensures.counted ∙ ap with_one_more c.in_ok-subject.ensures.same in
-    let few : begin.read + 1 ≤ most_written_out = subst (λ (m : MadeLists). m.read ≤ most_written_out) counted c.in_ok-count_choice.ensures.few in
-    let marked : made_lists c.close.new.self ≡ closed old = c.in_ok-close.ensures.closed ∙ ap closed counted in
-    let empty : c.replace-outside.new.dest.items ≡ [] = ap (λ (v : Vec Flow). v.items) c.replace-outside.ensures.after ∙ c.new.ensures.items in
-    let start = emptied (made_lists c.close.new.self) c.replace-outside.new.dest.items empty ∙ ap without_flows marked in
-    let outside : c.replace-outside.result.items ≡ (closed old).flows = ap (λ (v : Vec Flow). v.items) c.replace-outside.ensures.value ∙ ap (λ (m : MadeLists). m.flows) marked in
-    let now = made_lists c.add_branches-read.new.made in
-    let a = against (sender_named r asked) c.in_ok-subject.subject in
-    let held : against (sender_named r c.close.new.self.asked.items) c.in_ok-subject.subject ≡ a =
-    ap (λ (es : List NamedEntry). against (sender_named r es) c.in_ok-subject.subject) (ap (λ (m : MadeLists). m.asked) marked ∙ closed_asked old) in
-    let n = c.in_err-other.field-0.0 in
-    let p = err_from_is_err_and c.from_residual-in_err-other.result c.from_residual-in_err-other.ensures.1 in
-    let refused = subst (λ (k : ChoiceKind). BranchesRefused n e ns a k words (without_flows (closed old))) c.kind_of-kind.ensures
-    (subst (λ (x : Against). BranchesRefused n e ns x c.kind_of-kind.result words (without_flows (closed old))) held
-    (subst (λ (m : MadeLists). BranchesRefused n e ns (against (sender_named r c.close.new.self.asked.items) c.in_ok-subject.subject) c.kind_of-kind.result words m) start c.in_err-other.ensures.fault)) in
-    rw (p.1, p.2) (choice_not_read c.one_subject.ensures n e ns choice a words begin old c.in_ok-subject.ensures.found refl few (closed_branches n e ns a (kind_of choice) words old refused))
+add_choice-returns-in_err-other-clause-fault = choice_refused
 
 pub add_choice-returns-in_err-other-clause-kept : goal.add_choice-returns-in_err-other-clause-kept
-add_choice-returns-in_err-other-clause-kept t c =
-    let e = c.args.entries.now in
-    let r = records_of e in
-    let ns = counters c.args.turn.now in
-    let choice = written_choice c.args.choice.now in
-    let words = lexemes c.args.branches.now in
-    let begin = made_lists c.args.made.now in
-    let asked = c.read_subject.new.made.asked.items in
-    let (more, all, is) = c.in_ok-subject.ensures.asks in
-    let old = begun begin asked in
-    let counted : made_lists c.count_choice.new.made ≡ old = c.in_ok-count_choice.ensures.counted ∙ ap with_one_more c.in_ok-subject.ensures.same in
-    let few : begin.read + 1 ≤ most_written_out = subst (λ (m : MadeLists). m.read ≤ most_written_out) counted c.in_ok-count_choice.ensures.few in
-    let marked : made_lists c.close.new.self ≡ closed old = c.in_ok-close.ensures.closed ∙ ap closed counted in
-    let empty : c.replace-outside.new.dest.items ≡ [] = ap (λ (v : Vec Flow). v.items) c.replace-outside.ensures.after ∙ c.new.ensures.items in
-    let start = emptied (made_lists c.close.new.self) c.replace-outside.new.dest.items empty ∙ ap without_flows marked in
-    let outside : c.replace-outside.result.items ≡ (closed old).flows = ap (λ (v : Vec Flow). v.items) c.replace-outside.ensures.value ∙ ap (λ (m : MadeLists). m.flows) marked in
-    let now = made_lists c.add_branches-read.new.made in
-    let a = against (sender_named r asked) c.in_ok-subject.subject in
-    let held : against (sender_named r c.close.new.self.asked.items) c.in_ok-subject.subject ≡ a =
-    ap (λ (es : List NamedEntry). against (sender_named r es) c.in_ok-subject.subject) (ap (λ (m : MadeLists). m.asked) marked ∙ closed_asked old) in
-    let n = c.in_err-other.field-0.0 in
-    let p = err_from_is_err_and c.from_residual-in_err-other.result c.from_residual-in_err-other.ensures.1 in
-    rw (p.1, p.2) (leaves_more n begin old _ (begun_grown begin asked (more, is))
-    (loop_left n old now c.replace-outside.result.items outside (subst (λ (m : MadeLists). LeavesFront n m now) start c.in_err-other.ensures.kept)))
+add_choice-returns-in_err-other-clause-kept = choice_kept
 
 pub add_choice-returns-in_err-close-clause-fault : goal.add_choice-returns-in_err-close-clause-fault
 add_choice-returns-in_err-close-clause-fault t c =
