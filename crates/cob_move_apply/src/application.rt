@@ -3,15 +3,14 @@
 ghost use Rattle.std.specs.Prelude.{◌≡◌, ◌+◌, ◌≤◌, ℕ, List, false, length, OnErr};
 ghost use Rattle.cob_codec.specs.Readings.{KeepsZones};
 ghost use Rattle.cob_layout.specs.Sound.{IsSound};
-ghost use Rattle.cob_layout.specs.Standing.{KeepsOf};
 ghost use Rattle.cob_layout.specs.Storage.{greatest_length, IsStorage};
 ghost use Rattle.cob_move_data.specs.declared.operands.Side.TheVariants.{In};
 ghost use Rattle.cob_move_data.specs.Moves.{Move as Meant};
-ghost use Rattle.cob_move_apply.specs.Applied.{Applied, ending};
-ghost use Rattle.cob_move_apply.specs.Going.{Left, IsBounded};
-ghost use Rattle.cob_move_apply.specs.Promised.{AnyEnd, AnyMoveEnds, AnyMoveSpends, AnySpend, AreLeft, IsPlanOf, LeavesRest, PartMeans, PicturedMeans, PreparedMeans, RestSpends, StepMeans, StepsEnd, StepsMean, StepsSpend, all_moves};
+ghost use Rattle.cob_move_apply.specs.Applied.{ending};
+ghost use Rattle.cob_move_apply.specs.Going.{Left};
+ghost use Rattle.cob_move_apply.specs.Promised.{AnyEnd, AnyMoveEnds, AnyMoveSpends, AnySpend, AreLeft, LeavesRest, PartMeans, PicturedMeans, PreparedMeans, RestSpends, StepMeans, StepsEnd, StepsMean, StepsSpend};
 ghost use Rattle.cob_move_apply.specs.Steps.{support_of};
-ghost use Rattle.cob_move_apply.specs.Surveyed.{HasSpace, IsWorkspace, records};
+ghost use Rattle.cob_move_apply.specs.Surveyed.{IsWorkspace, records};
 
 use crate::basis::{Basis, PlacedReceivers};
 use crate::constant::{make_constant, make_located_constant};
