@@ -1,0 +1,8 @@
+#!/bin/bash
+# run2.sh CRATE ARGS.. : stub tree of CRATE as it is now, then the check (inside of the slot); crates that are built in /work/named come as built
+# NONE=1: no tactic in CRATE, so that each goal's name is printed, and what may be named there
+export BUILT="$(cd /work/named/crates; for f in */out/rlib; do n=${f%%/*}; [ -s $f/$n.rlib ] && [ -s $f/stamp ] && echo -n "$n "; done)"
+crate=$1; shift
+cd /work/named.tools; bash make.sh $crate
+if [ "$NONE" = 1 ]; then sed -i 's/^#!\[tactic(auto)\]$/#![tactic(none)]/' /work/named.st/$crate/crates/$crate/src/lib.rt; fi
+cd /work/named.st; exec python3 /work/named.tools/mix.py /work/named.st/$crate $crate "$@"

@@ -1,0 +1,6 @@
+#!/bin/bash
+# make.sh CRATE : the stub tree of CRATE
+export TOP=$1 SRC=/work/passages LEM=/work/passages.st/$1.lem DST=/work/passages.st/$1
+mkdir -p $LEM $DST
+cd /work/passages.tools; python3 types_alone.py > $DST.types.log 2>&1 || tail -3 $DST.types.log
+python3 stubs.py > $DST.stubs.log 2>&1 || tail -3 $DST.stubs.log

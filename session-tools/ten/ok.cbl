@@ -1,0 +1,1 @@
+           MOVE CUST-ID TO NEW-ID.

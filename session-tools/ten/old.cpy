@@ -1,0 +1,8 @@
+       01  CUST-OLD.
+           05  CUST-ID          PIC 9(6).
+           05  CUST-NAME        PIC X(20).
+           05  BALANCE          PIC S9(7)V99 COMP-3.
+           05  PHONE-COUNT      PIC 9.
+           05  PHONE            OCCURS 1 TO 3 TIMES
+                                DEPENDING ON PHONE-COUNT.
+               10  PHONE-NO     PIC X(10).

@@ -1,0 +1,2 @@
+           MOVE CUST-ID TO NEW-ID
+           MOVE CUST-NAM TO NEW-NAME.

@@ -1,0 +1,1 @@
+           MOVE BALANCE TO NEW-TEXT.

@@ -1,0 +1,1 @@
+           MOVE PHONE-NO TO NEW-PHONE.

@@ -1,0 +1,1 @@
+           MOVE "Mr TO NEW-NAME.

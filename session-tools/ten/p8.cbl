@@ -1,0 +1,1 @@
+           MOVE NEW-ID TO CUST-ID.
