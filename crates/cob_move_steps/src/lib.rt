@@ -28,8 +28,9 @@
 //!   [`ConstantStep::prepare`] that of a constant, whose bytes `receive` makes once. [`copy_all`] copies bytes.
 //!
 //! What each of them leaves in the receiver's bytes is what the rule says, in the same words; which number a sender gives, `Gives` of
-//! specs/Ends.antt says. What is left of a binary sender is so where its bytes are read as its picture says (`SuitsReading`): where they are sent
-//! whole, the move is that of `receive`. [`PicturedSteps`] are the steps of moves of such senders, in the words of [`MoveSteps`] but for that
+//! specs/Ends.antt says. It is so by every reading but those that take numbers by any zones (`KeepsZones`): by these, the move is that of `receive`.
+//! What is left of a binary sender is so where its bytes are read as its picture says (`SuitsReading`): where they are sent
+//! whole, the move is that of `receive` too. [`PicturedSteps`] are the steps of moves of such senders, in the words of [`MoveSteps`] but for that
 //! reading.
 //!
 //! Only to make steps ready takes memory.
@@ -40,7 +41,7 @@
 //! as their pictures say, and those of `prepare` and `run` of each kind of step (`NumberStep`, `WideStep` for packed receivers of more than sixteen
 //! digits, `AnyNumberStep` for binary items and for characters that are a number, `EditStep` and `WideEditStep`, `TextStep` for a number that an edited
 //! item gives, `NumeralsStep` for a number that becomes characters, `LongStep` for a number of up to 31 digits, `CharactersStep`, `ConstantStep`): a step leaves what the rule of MOVE says
-//! (`Received`), for any bytes of the sender and any reading.
+//! (`Received`), for any bytes of the sender and any reading that keeps zones.
 #![tactic(auto)]
 
 mod any_number_preparing;
