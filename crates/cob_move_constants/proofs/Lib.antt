@@ -1,1 +1,2 @@
 pub mod LaidOutLemmas
+pub mod WordLemmas

@@ -1,6 +1,7 @@
 //! Constants laid out, and texts compared with them.
 
-ghost use Rattle.std.specs.Prelude.{◌≡◌, ◌≤◌, ℕ, List, length, IfOk, IfSome, IsTrue};
+ghost use Rattle.std.specs.Prelude.{◌≡◌, ◌+◌, ◌≤◌, ℕ, List, drop, length, take, IfOk, IfSome, IsTrue};
+ghost use Rattle.std.specs.Slice.Scan.{big_endian};
 ghost use Rattle.cob_copybook_entry.specs.Described.{plain_value};
 ghost use Rattle.cob_move_receive.specs.Characters.{GivesConstant, padded};
 ghost use Rattle.cob_move_condition.specs.Compared.{text_order};
@@ -55,13 +56,41 @@ pub fn laid_out(alloc: Global, value: &Value, size: usize) -> Result<Option<Vec<
     Ok(Some(laid))
 }
 
-/// The order of two texts of one length.
+/// Eight bytes from a place on, as one number.
 #[inline(always)]
-pub fn order_of_equals(text: &[u8], other: &[u8]) -> Ordering
-    requires { length text.now ≡ length other.now }
-    ensures order { result ≡ text_order text.now other.now }
+fn eight_from(bytes: &[u8], at: usize) -> u64
+    requires { at + 8 ≤ length bytes.now }
+    ensures { result ≡ big_endian 0 (take 8 (drop at bytes.now)) }
 {
-    let mut at = 0;
+    u64::from_be_bytes([
+        bytes[at],
+        bytes[at + 1],
+        bytes[at + 2],
+        bytes[at + 3],
+        bytes[at + 4],
+        bytes[at + 5],
+        bytes[at + 6],
+        bytes[at + 7],
+    ])
+}
+
+/// Four bytes from a place on, as one number.
+#[inline(always)]
+fn four_from(bytes: &[u8], at: usize) -> u32
+    requires { at + 4 ≤ length bytes.now }
+    ensures { result ≡ big_endian 0 (take 4 (drop at bytes.now)) }
+{
+    u32::from_be_bytes([bytes[at], bytes[at + 1], bytes[at + 2], bytes[at + 3]])
+}
+
+/// The order of what is left of two texts of one length from a place on, byte by byte.
+#[inline(always)]
+fn order_from(text: &[u8], other: &[u8], start: usize) -> Ordering
+    requires long { length text.now ≡ length other.now }
+    requires within { start ≤ length text.now }
+    ensures { result ≡ text_order (drop start text.now) (drop start other.now) }
+{
+    let mut at = start;
     while at < text.len() {
         if text[at] < other[at] {
             return Ordering::Less;
@@ -72,4 +101,46 @@ pub fn order_of_equals(text: &[u8], other: &[u8]) -> Ordering
         at += 1;
     }
     Ordering::Equal
+}
+
+/// The order of what is left of two texts of one length from a place on: that of their next four bytes, as one number, where there are as many and they differ.
+#[inline(always)]
+fn order_by_fours(text: &[u8], other: &[u8], start: usize) -> Ordering
+    requires long { length text.now ≡ length other.now }
+    requires within { start ≤ length text.now }
+    ensures { result ≡ text_order (drop start text.now) (drop start other.now) }
+{
+    if text.len() - start < 4 {
+        return order_from(text, other, start);
+    }
+    let one = four_from(text, start);
+    let two = four_from(other, start);
+    if one < two {
+        return Ordering::Less;
+    }
+    if two < one {
+        return Ordering::Greater;
+    }
+    order_from(text, other, start + 4)
+}
+
+/// The order of two texts of one length. Eight bytes are looked at as one number, whose order is theirs.
+#[inline(always)]
+pub fn order_of_equals(text: &[u8], other: &[u8]) -> Ordering
+    requires { length text.now ≡ length other.now }
+    ensures order { result ≡ text_order text.now other.now }
+{
+    let mut at = 0;
+    while text.len() - at >= 8 {
+        let one = eight_from(text, at);
+        let two = eight_from(other, at);
+        if one < two {
+            return Ordering::Less;
+        }
+        if two < one {
+            return Ordering::Greater;
+        }
+        at += 8;
+    }
+    order_by_fours(text, other, at)
 }

@@ -1,0 +1,6 @@
+use Rattle.std.proofs.Common.{◌∙◌}
+use Rattle.cob_move_constants.proofs.WordLemmas.{eight_are}
+use Rattle.cob_move_constants.proofs.laying.eight_from.Goals as goal
+
+pub returns : goal.returns
+returns c = c.from_be_bytes.ensures ∙ eight_are c.args.bytes.now c.args.at c.requires
