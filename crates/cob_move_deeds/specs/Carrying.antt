@@ -1,6 +1,6 @@
 -- Flows carried out one behind another.
 use Rattle.std.specs.Prelude.{◌≡◌, ℕ, zero, suc, ◌+◌, ◌≤◌, List, [], ◌∷◌, drop, length, Option, Some, None}
-use Rattle.std.specs.List.{slice_get}
+use Rattle.std.specs.List.{AllByRecursion, slice_get}
 use Rattle.cob_layout.specs.Kept.{AreKeptOf}
 use Rattle.cob_layout_places.specs.Counts.{tables_of}
 use Rattle.cob_move_data.specs.Moves.{Records}
@@ -17,7 +17,7 @@ use Rattle.cob_move_deeds.specs.declared.sides.Sides.{Sides}
 use Rattle.cob_move_deeds.specs.Deeds.{Carried, Choice, Deeds, Moving, Nothing, both_deeds}
 use Rattle.cob_move_condition.specs.declared.condition.Condition as code
 use Rattle.cob_move_condition.specs.Conditions.{condition_of}
-use Rattle.cob_move_deeds.specs.Flows.{FlowSupport, behind_skip, loop_done, sender_at}
+use Rattle.cob_move_deeds.specs.Flows.{FlowSupport, IsFlow, behind_skip, loop_done, sender_at}
 use Rattle.cob_move_deeds.specs.Met.{DeedsHaveMet}
 use Rattle.cob_move_deeds.specs.Tests.{Holds, Judged, Test, Until, past_bound}
 
@@ -84,3 +84,16 @@ FlowSpends r on fs left input before now old new = (met : ℕ) × MeetFlows r on
 abbrev pub FlowSpendsAtStop : Records → FlowSupport → List Flow → (input before : List ℕ) → (old new : Scratching) → Type 0
 FlowSpendsAtStop r on fs input before old new = (met : ℕ) × MetFlows r on fs input before met
     × (new.reads + kept_among r.output old.kept_output ≤ old.reads + length (tables_of r.output) + allowed r.output met)
+
+-- Flows were carried out up to those that are left: what these make of the storage now, all make of the storage before; and what was read so far is what was met.
+pub record AreCarriedTo (r : Records) (on : FlowSupport) (all left : List Flow) (input before now : List ℕ) (old new : Scratching) : Type 0 where
+  pub leaves : LeavesFlows r on all left input before now
+  pub each : AllByRecursion (IsFlow on) left
+  pub spends : FlowSpends r on all left input before now old new
+  pub kept : HasKept r input now new
+
+-- something is missing for one of them: they stop there
+pub record StopWithin (r : Records) (on : FlowSupport) (all : List Flow) (input before : List ℕ) (stop : Stop) (after : List ℕ) (old new : Scratching) : Type 0 where
+  pub stops : StopsFlows r on all input before stop after
+  pub spent : FlowSpendsAtStop r on all input before old new
+  pub kept : HasKept r input after new

@@ -1,5 +1,5 @@
 -- Flows: what is carried out in the place of what is done, one behind another, with skips forward.
-use Rattle.std.specs.Prelude.{◌≡◌, ℕ, zero, suc, ◌+◌, ◌-◌, ◌/◌, ◌<◌, ◌≤◌, List, [], ◌∷◌, drop, length, map, take, Option, Some, None}
+use Rattle.std.specs.Prelude.{◌≡◌, ℕ, zero, suc, ◌+◌, ◌-◌, ◌/◌, ◌<◌, ◌≤◌, Bool, true, false, List, [], ◌∷◌, drop, length, map, take, Option, Some, None}
 use Rattle.std.specs.List.{AllByRecursion, slice_get}
 use Rattle.cob_codec.specs.declared.reading.Reading.{Reading}
 use Rattle.cob_move_data.specs.declared.operands.Side.TheVariants.{In}
@@ -75,6 +75,11 @@ behind_first (f ∷ fs) = fs
 -- the flows behind so many and a skip
 abbrev pub behind_skip : ℕ → List Flow → List Flow
 behind_skip count fs = behind_first (drop count fs)
+
+-- the flows that are left behind a condition, whether it holds or not: those in front, or those behind so many and a skip
+abbrev pub branch_left : Bool → ℕ → List Flow → List Flow
+branch_left true holding more = more
+branch_left false holding more = behind_skip holding more
 
 -- What flows come to, of which so many at most are looked at: moves; the turns of a loop, each behind its test; behind the test of a loop what is passed
 -- over where it holds; and behind a condition what is done where it holds, a skip, and what is done where it doesn't.

@@ -47,7 +47,8 @@ fn turns_up_to(one: &CountedLoop, number: u32) -> usize
 /// # Errors
 ///
 /// The first thing missing. The storage is as the moves and receivers before left it then.
-fn make_moves(
+#[inline(always)]
+pub(crate) fn make_moves(
     deeds: &ReadyDeeds,
     from: usize,
     to: usize,
@@ -249,6 +250,7 @@ fn make_row<'a>(
 /// # Errors
 ///
 /// The first thing missing for it.
+#[inline(never)]
 fn condition_said(
     deeds: &ReadyDeeds,
     number: usize,
@@ -281,6 +283,7 @@ fn condition_said(
 }
 
 /// Whether the condition with this number holds, where it was made ready; None where it wasn't.
+#[inline(always)]
 fn ready_says(deeds: &ReadyDeeds, number: usize, sides: &Sides<'_>, output: &[u8]) -> Option<bool>
     requires prepared { AreDeedsPrepared (records_of_sides sides.now) deeds.now }
     requires there { number < length deeds.now.asked.conditions.items }
@@ -305,6 +308,7 @@ fn ready_says(deeds: &ReadyDeeds, number: usize, sides: &Sides<'_>, output: &[u8
 /// # Errors
 ///
 /// The first thing missing for it.
+#[inline(always)]
 pub(crate) fn condition_says(
     deeds: &ReadyDeeds,
     number: usize,
@@ -458,36 +462,38 @@ fn next<'a>(
     }
 }
 
-/// Carries out the flows of deeds in order. It isn't inlined, so that what it needs costs nothing where all moves are carried out at once.
+/// Carries out flows in order, and keeps for them what bounds are known to give. It isn't inlined, so that what it needs costs nothing where no loop stands among
+/// the flows.
 ///
 /// # Errors
 ///
 /// The first thing missing. The storage is as the moves before left it then.
 #[inline(never)]
-pub(crate) fn carry_out(
+pub(crate) fn carry_loops(
     deeds: &ReadyDeeds,
+    flows: &[Flow],
     sides: &Sides<'_>,
     output: &mut [u8],
     scratch: &mut Scratch,
 ) -> Result<(), Stop>
     requires prepared { AreDeedsPrepared (records_of_sides sides.now) deeds.now }
+    requires each { AllByRecursion (IsFlow (flow_support deeds.now)) flows.now }
     requires input { IsStorage sides.now.input_layout.now sides.now.input.now }
     requires output { length output.old ≡ greatest_length sides.now.output_layout.now }
     requires kept { HasKept (records_of_sides sides.now) sides.now.input.now output.old
         scratch.old }
-    ensures carried { Carried (Judged (records_of_sides sides.now)) (records_of_sides sides.now)
-        (carried_from (records_of_sides sides.now) (flow_support deeds.now)
-        (length deeds.now.flows.items) deeds.now.flows.items) sides.now.input.now output.old
-        (ending result output.new) }
+    ensures carried { (n : ℕ) → length flows.now ≤ n
+        → Carried (Judged (records_of_sides sides.now)) (records_of_sides sides.now)
+        (carried_from (records_of_sides sides.now) (flow_support deeds.now) n flows.now)
+        sides.now.input.now output.old (ending result output.new) }
     ensures kept { HasKept (records_of_sides sides.now) sides.now.input.now output.new
         scratch.new }
-    ensures reads { ReadsOfDeeds (records_of_sides sides.now)
-        (carried_from (records_of_sides sides.now) (flow_support deeds.now)
-        (length deeds.now.flows.items) deeds.now.flows.items) sides.now.input.now output.old result
-        scratch.old scratch.new }
+    ensures reads { (n : ℕ) → length flows.now ≤ n → ReadsOfDeeds (records_of_sides sides.now)
+        (carried_from (records_of_sides sides.now) (flow_support deeds.now) n flows.now)
+        sides.now.input.now output.old result scratch.old scratch.new }
 {
     let mut known = KnownBounds::new();
-    let mut rest = deeds.flows.as_slice();
+    let mut rest = flows;
     while let Some((flow, more)) = rest.split_first() {
         rest = next(deeds, flow, more, sides, output, scratch, &mut known)?;
     }

@@ -35,6 +35,7 @@
 mod at_once;
 mod bound;
 mod carrying;
+mod choices;
 mod flow;
 mod giving;
 mod known;

@@ -18,7 +18,7 @@ ghost use Rattle.cob_move_deeds.specs.Met.{DeedsHaveMet};
 ghost use Rattle.cob_move_deeds.specs.Tests.{IsBound, Judged};
 
 use crate::at_once::carry_all;
-use crate::carrying::carry_out;
+use crate::choices::carry_out;
 use crate::flow::{Asked, Bound, CountedLoop, Flow};
 use crate::laws::tests_are_one;
 use crate::sides::Sides;
