@@ -5,7 +5,8 @@
 //! - a bar of four tiles: how many moves keep all, move bytes whose description may be lost, or may lose something, and how many bytes no receiver covers, each
 //!   with the first place; and below it each record as a ribbon, whose parts are as wide as their bytes and have the tone of their marks;
 //! - each record as rows, one below another in the order of its entries, with picture, value, digits and offset. A record in which each table has its greatest
-//!   number of elements is drawn. Partners stand at one height wherever the order of both records allows it (src/aligned.rt);
+//!   number of elements is drawn, and below the row of an entry stand its condition-names with their values. Partners stand at one height wherever the
+//!   order of both records allows it (src/aligned.rt);
 //! - a line for the single moves that join the same two entries, from the sender's box to the receiver's, with what they are where the pointer rests on it;
 //! - bytes that no receiver covers, moves that may lose something, and moves of bytes that may lose their description, each marked, and listed below with
 //!   its line; and where a record is given, all of its bytes.
@@ -42,4 +43,4 @@ pub use joined::ends_of;
 pub use lines::{Sides, write_line};
 pub use lists::{write_move, write_runs};
 pub use lost::Lost;
-pub use page::{Converted, Mapping, Page, Record, TextNames};
+pub use page::{ConditionNames, Converted, Mapping, Page, Record, TextNames};
