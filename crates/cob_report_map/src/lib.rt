@@ -11,7 +11,8 @@
 //! - bytes that no receiver covers, moves that may lose something, and moves of bytes that may lose their description, each marked, and listed below with
 //!   its line; and where a record is given, all of its bytes.
 //!
-//! What is promised is what is decided: which entries moves join ([`ends_of`]; `ends_in` of specs/Joined.antt), and by `cob_report_html` where boxes stand,
+//! What is promised is what is decided: which entries moves join ([`ends_of`]; `ends_in` of specs/Joined.antt), whose condition-names are drawn with each
+//! record (`HaveNamesOf` of specs/Named.antt; `ConditionRows` of `cob_report_boxes` says what is printed of them), and by `cob_report_html` where boxes stand,
 //! and which moves one line stands for. Which words are printed is shown by `cob_test_jobs`.
 //!
 //! # Lines and lists
@@ -26,7 +27,8 @@
 //!
 //! # Where it is proved
 //!
-//! What each single move of a paragraph joins, in order (`ends_in`), and of each how many join the same. The words of the page are shown by rows.
+//! What each single move of a paragraph joins, in order (`ends_in`), and of each how many join the same; that each record is drawn with the condition-names of
+//! its own copybook (`HaveNamesOf`). The words of the page are shown by rows.
 #![tactic(auto)]
 
 mod aligned;

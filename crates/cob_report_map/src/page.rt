@@ -2,6 +2,7 @@
 
 ghost use Rattle.std.specs.Prelude.{IfOk};
 ghost use Rattle.cob_report_map.specs.Joined.{ends_in};
+ghost use Rattle.cob_report_map.specs.Named.{HaveNamesOf};
 ghost use Rattle.cob_report_html.specs.Ends.{AreCountsAtFirsts};
 
 use crate::aligned::aligned;
@@ -139,7 +140,9 @@ fn drawn_sides<'a>(
     from: Vec<EntryRow>,
     to: Vec<EntryRow>,
     tones: Tones,
-) -> Result<Sides<'a>, AllocError> {
+) -> Result<Sides<'a>, AllocError>
+    ensures { IfOk result (HaveNamesOf mapping.now.conditions) }
+{
     let boxes = aligned(alloc, FIRST_TOP, &from, &to, &tones.partners)?;
     let (input, output) = given_records(mapping);
     let input = Drawn {
@@ -168,7 +171,9 @@ fn drawn_sides<'a>(
 }
 
 /// Both records as they are drawn.
-fn sides_of<'a>(alloc: Global, mapping: &Mapping<'a>) -> Result<Sides<'a>, AllocError> {
+fn sides_of<'a>(alloc: Global, mapping: &Mapping<'a>) -> Result<Sides<'a>, AllocError>
+    ensures { IfOk result (HaveNamesOf mapping.now.conditions) }
+{
     let (input, output) = given_records(mapping);
     let ConditionNames {
         input: in_names,
@@ -230,7 +235,10 @@ impl<'a> Page<'a> {
     /// # Errors
     ///
     /// Where no memory is left.
-    pub fn new(alloc: Global, mapping: &Mapping<'a>) -> Result<Page<'a>, AllocError> {
+    pub fn new(alloc: Global, mapping: &Mapping<'a>) -> Result<Page<'a>, AllocError>
+        // Each record is drawn with the condition-names of its own copybook.
+        ensures { IfOk result (λ page. HaveNamesOf mapping.now.conditions page.sides) }
+    {
         let sides = sides_of(alloc, mapping)?;
         match joins_of(alloc, mapping) {
             Ok(joins) => Ok(Page {
