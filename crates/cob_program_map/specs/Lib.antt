@@ -2,3 +2,4 @@ pub mod Numbered
 pub mod Showing
 pub mod Ends
 pub mod Told
+pub mod Books

@@ -12,6 +12,8 @@
 //! - what is said that a single move may lose is what it may lose (`AreAllLosses` of `cob_report_cover`);
 //! - a single move of bytes is said to lose their description exactly where it may lose it (`AreAllTold` of specs/Told.antt, by `KeepsIts` and
 //!   `LosesFirst` of `cob_back_losses`);
+//! - the condition-names that stand below the entries of a record are those of the text of its copybook (`HaveTheirNames` of specs/Books.antt), and
+//!   `ConditionRows` of `cob_report_boxes` promises to the byte what is printed of them;
 //! - which faults the command can have (`StopsAtRecord` of `cob_program_faults`, by `MayNotMap` of specs/Ends.antt), and that it ends with the status of
 //!   what it came to, or as where a device failed if its last line was not printed; a record that the file has not ends it as a malformed command line
 //!   (`EndsAtRecord`).
@@ -42,10 +44,12 @@
 //! where these are valid, and else those under the greatest counts (`ArePlacesShown`); that the bytes that are marked as covered are those that receivers
 //! cover (`MarkCoveredBytes`, `IsByteCovered` of `cob_report_cover`), that what is said that a single move may lose is what it may lose (`AreAllLosses`
 //! of `cob_report_cover`), and that a move of bytes is said to lose their description exactly where it may lose it, by the first byte (`AreAllTold`, by
-//! `KeepsIts` and `LosesFirst` of `cob_back_losses`); which faults `map` can have (`MayNotMap`, by `StopsAtRecord` of `cob_program_faults`), and with
-//! which status it ends (`EndsAtRecord`, as `explain` does).
+//! `KeepsIts` and `LosesFirst` of `cob_back_losses`); that the condition-names that stand below entries are those of the texts of both copybooks
+//! (`HaveTheirNames`, by `AreConditionNamesOf` of `cob_copybook_conditions`); which faults `map` can have (`MayNotMap`, by `StopsAtRecord` of
+//! `cob_program_faults`), and with which status it ends (`EndsAtRecord`, as `explain` does).
 #![tactic(auto)]
 
+mod books;
 mod command;
 mod drawn;
 mod ends;

@@ -3,9 +3,11 @@
 ghost use Rattle.std.specs.Prelude.{◌<◌, IfErr, IfOk};
 ghost use Rattle.cob_report_cover.specs.Covered.{AreMarks, IsByteCovered};
 ghost use Rattle.cob_report_cover.specs.Losing.{AreAllLosses};
+ghost use Rattle.cob_program_map.specs.Books.{HaveTheirNames};
 ghost use Rattle.cob_program_map.specs.Told.{AreAllTold};
 ghost use Rattle.cob_program_map.specs.Ends.{MayNotMap};
 
+use crate::books::NamedBooks;
 use crate::drawn::{converted_of, record_shown};
 use crate::ends::Unmapped;
 use crate::shown::Shown;
@@ -15,7 +17,7 @@ use cob_convert_record::Conversion;
 use cob_program_faults::CommandFault;
 use cob_program_line::MapLine;
 use cob_report_cover::{bytes_covered, losses_in};
-use cob_report_map::{Converted, Mapping, Page, TextNames};
+use cob_report_map::{ConditionNames, Converted, Mapping, Page, TextNames};
 use std::alloc::{AllocError, Global};
 use std::io::{Input, Print};
 use std::rt::Files;
@@ -72,14 +74,16 @@ fn names_of<'a>(line: &MapLine<'a>) -> TextNames<'a> {
     }
 }
 
-/// A mapping as it is drawn.
+/// A mapping between these copybooks as it is drawn.
 fn mapping_of<'a>(
     moves: &MovesBetween<'a>,
     names: TextNames<'a>,
+    books: NamedBooks<'a>,
     statements: StatementText<'a>,
     marks: &'a PageMarks,
     shown: &'a Option<Shown>,
 ) -> Mapping<'a>
+    requires names { HaveTheirNames books }
     requires covered { AreMarks (IsByteCovered moves.now) marks.now.covered.items }
     requires losses { AreAllLosses moves.now.layouts moves.now.statements.now
         marks.now.losses.items }
@@ -92,6 +96,10 @@ fn mapping_of<'a>(
         lines: statements.lines,
         tested: statements.tested,
         names,
+        conditions: ConditionNames {
+            input: books.input.names,
+            output: books.output.names,
+        },
         covered: marks.covered.as_slice(),
         losses: marks.losses.as_slice(),
         descriptions: marks.descriptions.as_slice(),
@@ -114,18 +122,20 @@ fn print_page<R: AllocGlobal + Print>(rt: &R, mapping: &Mapping<'_>) -> Result<(
 fn print_marked<R: AllocGlobal + Print>(
     rt: &R,
     line: &MapLine<'_>,
+    books: NamedBooks<'_>,
     moves: &MovesBetween<'_>,
     statements: StatementText<'_>,
     marks: &PageMarks,
     shown: &Option<Shown>,
 ) -> Result<(), Unmapped>
+    requires names { HaveTheirNames books }
     requires covered { AreMarks (IsByteCovered moves.now) marks.now.covered.items }
     requires losses { AreAllLosses moves.now.layouts moves.now.statements.now
         marks.now.losses.items }
     requires descriptions { AreAllTold moves.now marks.now.descriptions.items }
     ensures { IfErr result MayNotMap }
 {
-    let mapping = mapping_of(moves, names_of(line), statements, marks, shown);
+    let mapping = mapping_of(moves, names_of(line), books, statements, marks, shown);
     print_page(rt, &mapping)
 }
 
@@ -133,12 +143,14 @@ fn print_marked<R: AllocGlobal + Print>(
 fn print_shown<R: AllocGlobal + Files + Input + Print>(
     rt: &R,
     line: &MapLine<'_>,
+    books: NamedBooks<'_>,
     conversion: &Conversion,
     moves: &MovesBetween<'_>,
     statements: StatementText<'_>,
     marks: &PageMarks,
 ) -> Result<(), Unmapped>
     requires record { 0 < line.now.record }
+    requires names { HaveTheirNames books }
     requires covered { AreMarks (IsByteCovered moves.now) marks.now.covered.items }
     requires losses { AreAllLosses moves.now.layouts moves.now.statements.now
         marks.now.losses.items }
@@ -146,10 +158,10 @@ fn print_shown<R: AllocGlobal + Files + Input + Print>(
     ensures { IfErr result MayNotMap }
 {
     let shown = record_shown(rt, conversion, line)?;
-    print_marked(rt, line, moves, statements, marks, &shown)
+    print_marked(rt, line, books, moves, statements, marks, &shown)
 }
 
-/// Prints the page of a conversion, of whose statements these are the lines.
+/// Prints the page of a conversion between these copybooks, of whose statements these are the lines.
 ///
 /// # Errors
 ///
@@ -157,10 +169,12 @@ fn print_shown<R: AllocGlobal + Files + Input + Print>(
 pub(crate) fn print_conversion<R: AllocGlobal + Files + Input + Print>(
     rt: &R,
     line: &MapLine<'_>,
+    books: NamedBooks<'_>,
     conversion: &Conversion,
     lines: &[u32],
 ) -> Result<(), Unmapped>
-    requires { 0 < line.now.record }
+    requires record { 0 < line.now.record }
+    requires names { HaveTheirNames books }
     ensures { IfErr result MayNotMap }
 {
     let moves = carried(conversion);
@@ -170,5 +184,5 @@ pub(crate) fn print_conversion<R: AllocGlobal + Files + Input + Print>(
         lines,
         tested: tested.as_slice(),
     };
-    print_shown(rt, line, conversion, &moves, statements, &marks)
+    print_shown(rt, line, books, conversion, &moves, statements, &marks)
 }

@@ -1,5 +1,6 @@
 //! The boxes of a record.
 
+use crate::conditions::ConditionRows;
 use crate::entries::{ClausesText, KindText, NameText, TitleText};
 use crate::records::{Drawn, ROW_HEIGHT, Tone, last_beneath, tables_with};
 use crate::values::{write_own_value, write_values};
@@ -173,7 +174,7 @@ fn write_below<W: fmt::Write>(
     }
 }
 
-/// Writes the box of an entry that stands in so many groups and in these tables.
+/// Writes the box of an entry that stands in so many groups and in these tables: its row, below it those of its condition-names, and those of its values.
 fn write_own_box<W: fmt::Write>(
     f: &mut fmt::Formatter<W>,
     drawn: &Drawn<'_>,
@@ -188,6 +189,11 @@ fn write_own_box<W: fmt::Write>(
         write_item(f, drawn, entry, item, tables)?;
     }
     writeln!(f, "<span class=\"o\">{}</span></div>", spot.offset)?;
+    let names = ConditionRows {
+        names: drawn.names,
+        number: entry.number,
+    };
+    write!(f, "{names}")?;
     write_below(f, drawn, entry, tables)?;
     writeln!(f, "</div>")
 }

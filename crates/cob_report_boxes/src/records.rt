@@ -1,11 +1,15 @@
 //! The records of a mapping, and where their boxes stand.
 
 use crate::occurrences::{EntryTables, occurrences_in};
+use cob_copybook_conditions::ConditionName;
 use cob_layout::{Item, Kind, Layout, Node, Spot, is_number_item, is_table};
 use std::alloc::{AllocError, Global};
 
 /// How high a row is, in units of the drawing.
 pub const ROW_HEIGHT: u32 = 20;
+
+/// How high the row of a condition-name is.
+const NAME_HEIGHT: u32 = 16;
 
 /// What stays white below the box of an item.
 const GAP: u32 = 2;
@@ -48,6 +52,8 @@ pub struct EntryRow {
 #[derive(Drop)]
 pub struct Drawn<'a> {
     pub layout: &'a Layout,
+    /// The condition-names of its copybook.
+    pub names: &'a [ConditionName],
     /// What the names of its boxes begin with.
     pub letter: &'static str,
     /// Where its entries stand in the record that is given, and its bytes, where one is.
@@ -126,17 +132,29 @@ fn value_rows(contents: Option<GivenRecord<'_>>, entry: &Node, tables: &[usize])
     }
 }
 
-/// How high the box of an entry is, without those beneath it, and with what stays white below it.
-fn row_of(entry: &Node, value_rows: u32) -> EntryRow {
+/// How high the rows of the condition-names are that stand behind the entry with this number.
+fn names_height(names: &[ConditionName], number: usize) -> u32 {
+    let mut height: u32 = 0;
+    for name in names {
+        if name.entry == number {
+            height = height.saturating_add(NAME_HEIGHT);
+        }
+    }
+    height
+}
+
+/// How high the box of an entry is, without those beneath it, and with what stays white below it. The rows of its condition-names are so high.
+fn row_of(entry: &Node, value_rows: u32, names_height: u32) -> EntryRow {
     match entry.kind {
         Kind::Group => EntryRow {
-            height: ROW_HEIGHT + GROUP_GAP,
+            height: names_height.saturating_add(ROW_HEIGHT + GROUP_GAP),
             is_group: true,
         },
         Kind::Item(_) => EntryRow {
             height: value_rows
                 .saturating_add(1)
                 .saturating_mul(ROW_HEIGHT)
+                .saturating_add(names_height)
                 .saturating_add(GAP),
             is_group: false,
         },
@@ -146,19 +164,22 @@ fn row_of(entry: &Node, value_rows: u32) -> EntryRow {
 /// Adds the rows of an entry and of those beneath it, in their order. The entry stands in these tables.
 fn push_rows(
     contents: Option<GivenRecord<'_>>,
+    names: &[ConditionName],
     entry: &Node,
     over: &[usize],
     rows: &mut Vec<EntryRow>,
 ) -> Result<(), AllocError> {
     let tables = tables_with(over, entry);
-    rows.push(row_of(entry, value_rows(contents, entry, tables.as_slice())))?;
+    let value_rows = value_rows(contents, entry, tables.as_slice());
+    let names_height = names_height(names, entry.number);
+    rows.push(row_of(entry, value_rows, names_height))?;
     for child in entry.children.iter() {
-        push_rows(contents, child, tables.as_slice(), rows)?;
+        push_rows(contents, names, child, tables.as_slice(), rows)?;
     }
     Ok(())
 }
 
-/// How high the boxes of a record's entries are, by their numbers.
+/// How high the boxes of a record's entries are, by their numbers. The condition-names are those of its copybook.
 ///
 /// # Errors
 ///
@@ -166,10 +187,11 @@ fn push_rows(
 pub fn rows_of_entries(
     alloc: Global,
     layout: &Layout,
+    names: &[ConditionName],
     contents: Option<GivenRecord<'_>>,
 ) -> Result<Vec<EntryRow>, AllocError> {
     let mut rows = Vec::new(alloc);
-    push_rows(contents, layout.root(), &[], &mut rows)?;
+    push_rows(contents, names, layout.root(), &[], &mut rows)?;
     Ok(rows)
 }
 

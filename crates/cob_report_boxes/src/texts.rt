@@ -1,8 +1,38 @@
 //! Texts of the page.
 
-use cob_report_html::Escaped;
+ghost use Rattle.std.specs.Fmt.{WritesOnOk};
+ghost use Rattle.cob_report_boxes.specs.Shown.{shown, shown_character};
+
+use cob_report_html::escape_of;
 use cob_report_show::{digits_of, shown_byte};
-use std::{fmt, str};
+use std::fmt;
+
+/// Writes a character, or the escape that stands for it.
+pub(crate) fn write_character<W: fmt::Write>(
+    f: &mut fmt::Formatter<W>,
+    character: u8,
+) -> fmt::Result
+    ensures { WritesOnOk W.write_str_gives f.old result (shown_character character) f.new }
+{
+    let character = char::from(character);
+    match escape_of(character) {
+        Some(escape) => f.write_str(escape),
+        None => f.write_char(character),
+    }
+}
+
+/// Writes characters, with their escapes.
+pub(crate) fn write_shown<W: fmt::Write>(
+    f: &mut fmt::Formatter<W>,
+    characters: &[u8],
+) -> fmt::Result
+    ensures { WritesOnOk W.write_str_gives f.old result (shown characters.now) f.new }
+{
+    for character in characters {
+        write_character(f, *character)?;
+    }
+    Ok(())
+}
 
 /// ASCII characters, which print with their escapes.
 #[derive(Clone, Copy)]
@@ -11,11 +41,13 @@ pub struct Characters<'a> {
 }
 
 impl fmt::Display for Characters<'_> {
+    ghost use Rattle.std.specs.Prelude.{Some};
+    ghost use Rattle.cob_report_boxes.specs.Shown.{shown};
+
+    ghost output = { λ text. Some (shown text.characters.now) };
+
     fn fmt<W: fmt::Write>(&self, f: &mut fmt::Formatter<W>) -> fmt::Result {
-        match str::from_utf8(self.characters) {
-            Ok(text) => write!(f, "{}", Escaped { text }),
-            Err(_) => Ok(()),
-        }
+        write_shown(f, self.characters)
     }
 }
 

@@ -5,8 +5,8 @@ ghost use Rattle.cob_report_html.specs.Escapes.{escaped_character};
 
 use std::fmt;
 
-/// The escape of a character that has a meaning of its own in HTML.
-fn escape_of(character: char) -> Option<&'static str>
+/// The escape of a character that has a meaning of its own in HTML; none of another one, which stands as it is.
+pub fn escape_of(character: char) -> Option<&'static str>
     ensures escape { IfSome result
         (λ escape. encode_utf8_all (escaped_character character) ≡ escape.now) }
     ensures plain { IfNone result

@@ -4,7 +4,7 @@
 //!
 //! Texts and shapes as HTML, made up where they are printed: texts with their escapes, and the lines, curves and rectangles of a drawing in SVG.
 //!
-//! - [`Escaped`] prints a text so that a browser shows just its characters: `<`, `>`, `&` and `"` as escapes, and each other one as it is.
+//! - [`Escaped`] prints a text so that a browser shows just its characters: `<`, `>`, `&` and `"` as escapes ([`escape_of`]), and each other one as it is.
 //! - [`StraightLine`], [`LevelCurve`] and [`Rectangle`] print as elements of a drawing.
 //!
 //! What each prints is promised whole (`output`). That no text can leave its place is a law: what is written of it are plain characters and escapes, one
@@ -45,7 +45,7 @@ mod shapes;
 mod tops;
 
 pub use ends::{JoinedEnds, Origin, counts_of};
-pub use escapes::Escaped;
+pub use escapes::{Escaped, escape_of};
 pub use laws::{escapes_read_back, reading_is_one};
 pub use rulers::{ROW, RulerPart, part_at, rows_of};
 pub use runs::bare_length;

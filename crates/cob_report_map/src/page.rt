@@ -2,6 +2,7 @@
 
 ghost use Rattle.std.specs.Prelude.{IfOk};
 ghost use Rattle.cob_report_map.specs.Joined.{ends_in};
+ghost use Rattle.cob_report_map.specs.Named.{HaveNamesOf};
 ghost use Rattle.cob_report_html.specs.Ends.{AreCountsAtFirsts};
 
 use crate::aligned::aligned;
@@ -11,11 +12,12 @@ use crate::lists::{write_move, write_runs};
 use crate::lost::Lost;
 use crate::style::{
     BARE_HEAD, BYTES_HEAD, CONSTANTS_END, DRAWING_END, HEAD, LINES_END, LIST_END, MOVES_HEAD,
-    PAGE_END, RIBBONS_END, RIBBONS_HEAD, STYLE, TESTED_KEY,
+    NAMES_STYLE, PAGE_END, RIBBONS_END, RIBBONS_HEAD, STYLE, TESTED_KEY,
 };
 use crate::tiles::{Counted, count_bare, write_tiles};
 use crate::tones::{Tones, tones_of};
 use cob_back_losses::{Losses, Unkept};
+use cob_copybook_conditions::ConditionName;
 use cob_layout::{Layout, Spot};
 use cob_move_data::StatementMoves;
 use cob_report_boxes::{
@@ -60,6 +62,13 @@ pub struct TextNames<'a> {
     pub moves: &'a str,
 }
 
+/// The condition-names of both copybooks.
+#[derive(Clone, Copy)]
+pub struct ConditionNames<'a> {
+    pub input: &'a [ConditionName],
+    pub output: &'a [ConditionName],
+}
+
 /// What is drawn.
 #[derive(Clone, Copy)]
 pub struct Mapping<'a> {
@@ -71,6 +80,7 @@ pub struct Mapping<'a> {
     /// Of each statement, whether a test stands before it.
     pub tested: &'a [bool],
     pub names: TextNames<'a>,
+    pub conditions: ConditionNames<'a>,
     /// Of each byte of the output record, whether a receiver covers it.
     pub covered: &'a [bool],
     /// What each single move may lose.
@@ -130,11 +140,14 @@ fn drawn_sides<'a>(
     from: Vec<EntryRow>,
     to: Vec<EntryRow>,
     tones: Tones,
-) -> Result<Sides<'a>, AllocError> {
+) -> Result<Sides<'a>, AllocError>
+    ensures { IfOk result (HaveNamesOf mapping.now.conditions) }
+{
     let boxes = aligned(alloc, FIRST_TOP, &from, &to, &tones.partners)?;
     let (input, output) = given_records(mapping);
     let input = Drawn {
         layout: mapping.input,
+        names: mapping.conditions.input,
         letter: "i",
         contents: input,
         covered: &[],
@@ -145,6 +158,7 @@ fn drawn_sides<'a>(
     };
     let output = Drawn {
         layout: mapping.output,
+        names: mapping.conditions.output,
         letter: "o",
         contents: output,
         covered: mapping.covered,
@@ -157,10 +171,16 @@ fn drawn_sides<'a>(
 }
 
 /// Both records as they are drawn.
-fn sides_of<'a>(alloc: Global, mapping: &Mapping<'a>) -> Result<Sides<'a>, AllocError> {
+fn sides_of<'a>(alloc: Global, mapping: &Mapping<'a>) -> Result<Sides<'a>, AllocError>
+    ensures { IfOk result (HaveNamesOf mapping.now.conditions) }
+{
     let (input, output) = given_records(mapping);
-    let from = rows_of_entries(alloc, mapping.input, input)?;
-    let to = rows_of_entries(alloc, mapping.output, output)?;
+    let ConditionNames {
+        input: in_names,
+        output: out_names,
+    } = mapping.conditions;
+    let from = rows_of_entries(alloc, mapping.input, in_names, input)?;
+    let to = rows_of_entries(alloc, mapping.output, out_names, output)?;
     let singles = singles_of(alloc, mapping.statements, mapping.lines)?;
     let tones = tones_of(
         alloc,
@@ -215,7 +235,10 @@ impl<'a> Page<'a> {
     /// # Errors
     ///
     /// Where no memory is left.
-    pub fn new(alloc: Global, mapping: &Mapping<'a>) -> Result<Page<'a>, AllocError> {
+    pub fn new(alloc: Global, mapping: &Mapping<'a>) -> Result<Page<'a>, AllocError>
+        // Each record is drawn with the condition-names of its own copybook.
+        ensures { IfOk result (λ page. HaveNamesOf mapping.now.conditions page.sides) }
+    {
         let sides = sides_of(alloc, mapping)?;
         match joins_of(alloc, mapping) {
             Ok(joins) => Ok(Page {
@@ -295,6 +318,10 @@ fn write_head<W: fmt::Write>(f: &mut fmt::Formatter<W>, mapping: &Mapping<'_>) -
     f.write_str(HEAD)?;
     write!(f, "<title>{input} to {output}</title>\n<style>")?;
     f.write_str(STYLE)?;
+    let names = mapping.conditions;
+    if !names.input.is_empty() || !names.output.is_empty() {
+        f.write_str(NAMES_STYLE)?;
+    }
     writeln!(
         f,
         "</style></head><body>\n<h1>{input} <span>to</span> {output}</h1>"

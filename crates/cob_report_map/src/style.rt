@@ -116,6 +116,16 @@ tr,nav a{break-inside:avoid}
 }
 ";
 
+/// What is said of the rows of condition-names, where there are some.
+pub(crate) const NAMES_STYLE: &str =
+    ".n{height:calc(16*var(--u));line-height:calc(16*var(--u));font-size:11px;color:var(--soft);white-space:pre;overflow:hidden;text-overflow:ellipsis}
+.g .n{padding-left:14px}
+@media screen and (max-width:760px){
+.n{font-size:9px}
+.g .n{padding-left:7px}
+}
+";
+
 /// The beginning of the page.
 pub(crate) const HEAD: &str = "<!DOCTYPE html>
 <html lang=\"en\"><head><meta charset=\"utf-8\">
