@@ -58,9 +58,9 @@
 //!
 //! The clauses of `each`: it carries out the moves of statements one single move after another, hands each to a `Watcher`, and does in all what
 //! `Moves::apply` says, in the very clause (`Applied`); what was handed out are the single moves in order up to the first that stops, and the answer
-//! names that one and what it asked for. The clause of `walk_record`: it makes of a record what a run makes (`Becomes`, `StopsAt`), each single move
-//! handed out. What is printed is shown by rows. Of `Told::of`, inside: which bytes of an entry are told, all or those at both ends, and how many they
-//! are (`AreToldOf`). Its words are shown by rows.
+//! names that one and what it asked for; each is marked exactly where it took a number by any zones that is none by strict ones (`IsMark`). The clause
+//! of `walk_record`: it makes of a record what a run makes (`Becomes`, `StopsAt`), each single move handed out. What is printed is shown by rows. Of
+//! `Told::of`, inside: which bytes of an entry are told, all or those at both ends, and how many they are (`AreToldOf`). Its words are shown by rows.
 #![tactic(auto)]
 
 mod anyhow;
