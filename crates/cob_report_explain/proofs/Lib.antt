@@ -1,3 +1,4 @@
+pub mod AnyhowLemmas
 pub mod EachLemmas
 pub mod LawLemmas
 pub mod WalkLemmas

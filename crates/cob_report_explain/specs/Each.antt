@@ -1,5 +1,5 @@
 -- Single moves, one after another: what each is and does, and where they stop.
-use Rattle.std.specs.Prelude.{◌≡◌, ◌⊎◌, ℕ, ◌+◌, List, [], ◌∷◌, ◌++◌, map, Option, Some, None, true, Ok, Err, Result, option_map}
+use Rattle.std.specs.Prelude.{◌≡◌, ◌⊎◌, Bool, ℕ, ◌+◌, List, [], ◌∷◌, ◌++◌, map, Option, Some, None, true, Ok, Err, Result, option_map}
 use Rattle.cob_codec.specs.declared.reading.Reading.{Reading}
 use Rattle.cob_copybook_tree.specs.Forests.{Forest}
 use Rattle.cob_copybook_tree.specs.Nodes.{Resolved}
@@ -19,6 +19,7 @@ use Rattle.cob_move_apply.specs.declared.stop.Stop.{Stop}
 use Rattle.cob_move_apply.specs.declared.stop.StopCause.TheVariants.{NoValue}
 use Rattle.cob_move_apply.specs.Applied.{Content, Ending, Gives}
 use Rattle.cob_move_apply.specs.Located.{Located, stop_at}
+use Rattle.cob_report_explain.specs.Anyhow.{IsMark}
 use Rattle.cob_report_explain.specs.declared.single.Asked.{Asked}
 use Rattle.cob_report_explain.specs.declared.single.Asked.TheVariants as asked
 use Rattle.cob_report_explain.specs.declared.single.AskedStop.{AskedStop}
@@ -64,7 +65,8 @@ move_meant reading r m = record { sender = sender_by reading r m.sender; receive
 abbrev pub single_number : NumberedMove → ℕ → SingleNumber
 single_number m k = record { statement = m.statement; pair = m.pair; receiver = k }
 
--- A single move that was carried out: which it is, its sender and what that gave, its receiver with its place, and the storage behind it.
+-- A single move that was carried out: which it is, its sender and what that gave, its receiver with its place, the storage behind it, and whether
+-- it took a number by any zones that strict zones refuse.
 pub record Single : Type 0 where
   pub number : SingleNumber
   pub sender : code.Sender
@@ -72,11 +74,19 @@ pub record Single : Type 0 where
   pub receiver : Ref
   pub place : Place
   pub storage : List ℕ
+  pub by_any_zones : Bool
 
 -- the single move of a move to its receiver with this number
-abbrev pub single : NumberedMove → ℕ → Content → Ref → Place → List ℕ → Single
-single m k content q p storage =
-    record { number = single_number m k; sender = m.sender; content = content; receiver = q; place = p; storage = storage }
+abbrev pub single : NumberedMove → ℕ → Content → Ref → Place → List ℕ → Bool → Single
+single m k content q p storage mark = record {
+  number = single_number m k;
+  sender = m.sender;
+  content = content;
+  receiver = q;
+  place = p;
+  storage = storage;
+  by_any_zones = mark;
+}
 
 -- A receiver gets what the sender gave: at its place the bytes become what it receives, and all others stay.
 abbrev pub GetsAt : Forest Resolved → Content → Ref → List ℕ → Place → List ℕ → Type 0
@@ -84,10 +94,11 @@ GetsAt tree content q before p after =
     (bytes : List ℕ) × Located Out tree true (operand_in tree q) before (Ok p)
     × Received content.sent (operand_in tree q).kind p.length (Some bytes) × (after ≡ with_field before p bytes)
 
--- it is the single move of a move to this receiver, which has this number
+-- It is the single move of a move to this receiver, which has this number. It is marked exactly where it took a number that strict zones refuse.
 abbrev pub IsSingleTo : Forest Resolved → NumberedMove → ℕ → Content → Ref → List ℕ → Single → Type 0
 IsSingleTo tree m k content q before one =
-    (one ≡ single m k content q one.place one.storage) × GetsAt tree content q before one.place one.storage
+    (one ≡ single m k content q one.place one.storage one.by_any_zones) × GetsAt tree content q before one.place one.storage
+    × IsMark (operand_in tree q).kind content.sent one.by_any_zones
 
 -- what is asked for, and why it isn't there
 abbrev pub asked_stop : Asked → Stop → AskedStop

@@ -1,3 +1,4 @@
+pub mod Anyhow
 pub mod Each
 pub mod Seen
 pub mod Room

@@ -26,6 +26,7 @@ handed_single one = record {
   receiver = one.receiver.now;
   place = one.place;
   storage = one.storage.now;
+  by_any_zones = one.by_any_zones;
 }
 
 -- a move of the code

@@ -64,6 +64,7 @@ impl<W: Watcher> Watcher for Renumbered<'_, W> {
             receiver: one.receiver,
             place: one.place,
             storage: one.storage,
+            by_any_zones: one.by_any_zones,
         });
     }
 

@@ -15,6 +15,7 @@ ghost use Rattle.cob_report_explain.specs.Seen.{HandsOut, SeesSingles, StopsAtRe
 ghost use Rattle.cob_report_explain.specs.declared.single.Asked.TheVariants as asked;
 ghost use Rattle.cob_report_explain.specs.declared.single.AskedStop.{AskedStop as Lack};
 
+use crate::anyhow::takes_anyhow;
 use crate::places::{SideStorage, locate};
 use crate::single::{Asked, AskedStop, CarriedMove, MoveParts, MoveStop, SingleNumber, stop_of};
 use crate::watcher::Watcher;
@@ -129,6 +130,7 @@ fn give_one<W: Watcher>(
                 receiver: entry,
                 place,
                 storage: &*output,
+                by_any_zones: takes_anyhow(layout, entry, given),
             });
             Ok(())
         }

@@ -15,6 +15,8 @@
 //! - what was handed out are the single moves in their order, up to the first that stops, each with its number, and the answer names the one that
 //!   stops and what it asked for (`seen`, by `AreOfMoves` of specs/Each.antt): the sender's bytes are taken once, as its move begins; a receiver's
 //!   place is found in the storage as it then is, there the bytes become what `Received` of `cob_move_receive` says, and all others stay;
+//! - a single move is marked exactly where its receiver, an item, took a number that is none where zones are read strictly (`IsMark` of
+//!   specs/Anyhow.antt);
 //! - it takes no memory: all that it needs is an [`EachRoom`], made once, which each call leaves as large as it was (`room`).
 //!
 //! # Words
@@ -30,7 +32,8 @@
 //! ```
 //!
 //! the line of the statement, the sender's name, its offset, its bytes in hexadecimal digits and its value as `show` prints it, and then the same of the
-//! receiver behind the move. Of more than 128 bytes the first and the last 64 are told, and how many they are. A constant stands as it is written.
+//! receiver behind the move. Behind the value of a sender stands ` (read by any zones)` where its receiver, an item, took a number of it that is none
+//! where zones are read strictly. Of more than 128 bytes the first and the last 64 are told, and how many they are. A constant stands as it is written.
 //! [`move_words`], [`test_words`], [`condition_words`] and [`count_words`] say what is wrong where a single move, a loop's test or a condition stops, or a
 //! count that none of these asks for, by the text of `cob_report_faults`: they
 //! look for what it names in the [`Scene`], the conversion and what is known of one record.
@@ -55,11 +58,12 @@
 //!
 //! The clauses of `each`: it carries out the moves of statements one single move after another, hands each to a `Watcher`, and does in all what
 //! `Moves::apply` says, in the very clause (`Applied`); what was handed out are the single moves in order up to the first that stops, and the answer
-//! names that one and what it asked for. The clause of `walk_record`: it makes of a record what a run makes (`Becomes`, `StopsAt`), each single move
-//! handed out. What is printed is shown by rows. Of `Told::of`, inside: which bytes of an entry are told, all or those at both ends, and how many they
-//! are (`AreToldOf`). Its words are shown by rows.
+//! names that one and what it asked for; each is marked exactly where it took a number by any zones that is none by strict ones (`IsMark`). The clause
+//! of `walk_record`: it makes of a record what a run makes (`Becomes`, `StopsAt`), each single move handed out. What is printed is shown by rows. Of
+//! `Told::of`, inside: which bytes of an entry are told, all or those at both ends, and how many they are (`AreToldOf`). Its words are shown by rows.
 #![tactic(auto)]
 
+mod anyhow;
 mod conditions;
 mod explainer;
 mod flows;

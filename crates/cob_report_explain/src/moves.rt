@@ -48,10 +48,14 @@ impl SingleText<'_> {
                     kind: Some(kind),
                     bytes,
                 };
-                write!(f, " {held}")
+                write!(f, " {held}")?;
             }
-            Sent::Constant(_) => Ok(()),
+            Sent::Constant(_) => {}
         }
+        if self.one.by_any_zones {
+            write!(f, " (read by any zones)")?;
+        }
+        Ok(())
     }
 
     /// Writes what receives it, and what that holds then.

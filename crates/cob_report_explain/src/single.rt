@@ -69,6 +69,8 @@ pub struct CarriedMove<'a> {
     pub place: Place,
     /// The storage of the output record behind the move.
     pub storage: &'a [u8],
+    /// Whether its receiver, an item, took a number that was read by any zones, and which is none where zones are read strictly.
+    pub by_any_zones: bool,
 }
 
 /// The stop of a single move, for what isn't there.
