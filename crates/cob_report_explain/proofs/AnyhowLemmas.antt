@@ -1,6 +1,7 @@
 -- Values that are read by any zones, where strict zones give none.
 use Rattle.std.proofs.Common.{◌≡◌, ◌↔◌, ◌∙◌, ℕ, Bool, true, false, List, refl, sym, subst, Option, Some, None}
 use Rattle.std.specs.Prelude.{IfSome, IsSomeAnd, is_some}
+use Rattle.cob_codec.specs.Readings.{keeping_zones}
 use Rattle.cob_codec.specs.declared.reading.Reading.{Reading}
 use Rattle.cob_copybook_tree.specs.declared.node.Item.{Item}
 use Rattle.cob_copybook_tree.specs.declared.node.Kind.{Kind}
@@ -28,9 +29,38 @@ read_gives reading i bytes o negative digits r is found only = (
   λ gives. is ∙ is_there reading i bytes o negative digits only gives,
 )
 
+is_so : (reading : Reading) (i : Item) (bytes : List ℕ) → IsReadAnyhow reading i bytes → is_number i ≡ true
+is_so reading i bytes (is, gives, refuses) = is
+
+gives_so : (reading : Reading) (i : Item) (bytes : List ℕ) → IsReadAnyhow reading i bytes → GivesBy reading i bytes
+gives_so reading i bytes (is, gives, refuses) = gives
+
+refuses_so : (reading : Reading) (i : Item) (bytes : List ℕ) → IsReadAnyhow reading i bytes → GivesBy (keeping_zones reading) i bytes → ⊥
+refuses_so reading i bytes (is, gives, refuses) = refuses
+
+never_true : {A : Type 0} → false ≡ true → A
+never_true e = cc
+
+-- strict zones are a reading too
+pub strictly_gives : (x y : Reading) (i : Item) (bytes : List ℕ) (r : Bool) → x ≡ y → (r ≡ true) ↔ GivesBy x i bytes → (r ≡ true) ↔ GivesBy y i bytes
+strictly_gives x y i bytes r is h = subst (λ (z : Reading). (r ≡ true) ↔ GivesBy z i bytes) is h
+
+-- what strict zones read is not read so
+pub strictly_read : (reading : Reading) (i : Item) (bytes : List ℕ) → GivesBy (keeping_zones reading) i bytes → (false ≡ true) ↔ IsReadAnyhow reading i bytes
+strictly_read reading i bytes gives = (never_true, λ h. absurd (refuses_so reading i bytes h gives))
+
+-- what strict zones refuse is read so exactly where the reading in use gives a number
+pub refused_read : (reading : Reading) (i : Item) (bytes : List ℕ) (wide strict : Bool) → is_number i ≡ true → (wide ≡ true) ↔ GivesBy reading i bytes
+    → (strict ≡ true) ↔ GivesBy (keeping_zones reading) i bytes → strict ≡ false → (wide ≡ true) ↔ IsReadAnyhow reading i bytes
+refused_read reading i bytes wide strict is wider stricter refused =
+    let none : GivesBy (keeping_zones reading) i bytes → ⊥ = λ gives. never_true (sym refused ∙ stricter.1 gives) in (
+      λ e. (is, wider.0 e, none),
+      λ h. wider.1 (gives_so reading i bytes h),
+    )
+
 -- what is no number's item is not read so
 pub no_number : (reading : Reading) (i : Item) (bytes : List ℕ) → is_number i ≡ false → (false ≡ true) ↔ IsReadAnyhow reading i bytes
-no_number reading i bytes is = (λ (e : false ≡ true). cc, λ h. (let n : is_number i ≡ true = h.0 in cc))
+no_number reading i bytes is = (never_true, λ h. never_true (sym is ∙ is_so reading i bytes h))
 
 -- the mark of a receiver of this kind is that of another name of it
 pub mark_of : (a b : Kind) (s : Sent) (mark : Bool) → a ≡ b → IsMark a s mark → IsMark b s mark

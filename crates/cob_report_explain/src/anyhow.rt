@@ -1,6 +1,7 @@
 //! Values that are read by any zones, where strict zones give none.
 
 ghost use Rattle.std.specs.Prelude.{◌≡◌, ◌↔◌, true, length};
+ghost use Rattle.cob_codec.specs.Readings.{keeping_zones};
 ghost use Rattle.cob_copybook_tree.specs.Items.{IsNumberItem, IsStorable};
 ghost use Rattle.cob_copybook_tree.specs.Lengths.{item_size};
 ghost use Rattle.cob_copybook_tree.specs.Resolving.{is_number};
@@ -24,14 +25,27 @@ fn gives_by(reading: Reading, item: &Item, bytes: &[u8]) -> bool
     read_sent(reading, item, bytes).is_some()
 }
 
-/// Whether a number's item is read by a reading, but not where zones are read strictly.
+/// Whether the bytes of a number's item represent one where zones are read strictly.
+fn gives_strictly(reading: Reading, item: &Item, bytes: &[u8]) -> bool
+    requires number { IsNumberItem item.now }
+    requires long { length bytes.now ≡ item_size item.now }
+    ensures { (result ≡ true) ↔ GivesBy (keeping_zones reading) item.now bytes.now }
+{
+    gives_by(reading.keeping_zones(), item, bytes)
+}
+
+/// Whether the bytes of a number's item represent one by a reading, but none where zones are read strictly.
 fn number_anyhow(reading: Reading, item: &Item, bytes: &[u8]) -> bool
     requires is { is_number item.now ≡ true }
     requires number { IsNumberItem item.now }
     requires long { length bytes.now ≡ item_size item.now }
     ensures { (result ≡ true) ↔ IsReadAnyhow reading item.now bytes.now }
 {
-    gives_by(reading, item, bytes) && !gives_by(reading.keeping_zones(), item, bytes)
+    if gives_strictly(reading, item, bytes) {
+        false
+    } else {
+        gives_by(reading, item, bytes)
+    }
 }
 
 /// Whether an item's bytes represent a number by a reading, but none where zones are read strictly.
@@ -65,15 +79,23 @@ fn given_anyhow(given: &Sent<'_>) -> bool
     }
 }
 
-/// Whether a receiver takes a number from a sender that was read by any zones, and that is none where zones are read strictly.
+/// Whether a receiver of this kind takes a number from a sender that gives one by the reading in use, but none where zones are read strictly.
+fn kind_takes(kind: &Kind, given: &Sent<'_>) -> bool
+    requires { HasAllBytes (sent given.now) }
+    ensures { IsMark kind.now (sent given.now) result }
+{
+    match kind {
+        Kind::Group => false,
+        Kind::Item(_) => given_anyhow(given),
+    }
+}
+
+/// Whether a receiver takes a number from a sender that gives one by the reading in use, but none where zones are read strictly.
 pub(crate) fn takes_anyhow(layout: &Layout, entry: &Ref, given: &Given<'_>) -> bool
     requires sound { IsSound layout.now }
     requires given { HasAllBytes (sent given.now.sent) }
     requires operand { IsOperand layout.now (operand_in layout.now entry.now) }
     ensures { IsMark (operand_in layout.now entry.now).kind (sent given.now.sent) result }
 {
-    match entry_kind(layout, entry) {
-        Kind::Group => false,
-        Kind::Item(_) => given_anyhow(&given.sent),
-    }
+    kind_takes(entry_kind(layout, entry), &given.sent)
 }
