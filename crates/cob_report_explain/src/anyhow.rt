@@ -7,7 +7,7 @@ ghost use Rattle.cob_copybook_tree.specs.Lengths.{item_size};
 ghost use Rattle.cob_copybook_tree.specs.Resolving.{is_number};
 ghost use Rattle.cob_layout.specs.Sound.{IsSound};
 ghost use Rattle.cob_move_data.specs.Moves.{IsOperand, operand_in};
-ghost use Rattle.cob_move_receive.specs.Sent.{HasAllBytes, sent};
+ghost use Rattle.cob_move_receive.specs.Sent.{Entry, HasAllBytes, sent};
 ghost use Rattle.cob_report_explain.specs.Anyhow.{GivesAnyhow, GivesBy, IsMark, IsReadAnyhow};
 
 use cob_codec::Reading;
@@ -61,6 +61,17 @@ fn read_anyhow(reading: Reading, item: &Item, bytes: &[u8]) -> bool
     }
 }
 
+/// Whether the bytes of an entry are those of a number's item, and represent a number by a reading, but none where zones are read strictly.
+fn entry_anyhow(kind: &Kind, bytes: &[u8], reading: Reading) -> bool
+    requires { HasAllBytes (Entry kind.now bytes.now reading) }
+    ensures { (result ≡ true) ↔ GivesAnyhow (Entry kind.now bytes.now reading) }
+{
+    match kind {
+        Kind::Group => false,
+        Kind::Item(item) => read_anyhow(reading, item, bytes),
+    }
+}
+
 /// Whether a sender gives a number by the reading in use, but none where zones are read strictly.
 fn given_anyhow(given: &Sent<'_>) -> bool
     requires { HasAllBytes (sent given.now) }
@@ -72,10 +83,7 @@ fn given_anyhow(given: &Sent<'_>) -> bool
             kind,
             bytes,
             reading,
-        } => match kind {
-            Kind::Group => false,
-            Kind::Item(item) => read_anyhow(*reading, item, bytes),
-        },
+        } => entry_anyhow(kind, bytes, *reading),
     }
 }
 
