@@ -13,7 +13,7 @@ use Rattle.cob_back_losses.specs.Seen.{moved_by, sent_element_by}
 -- ---- of statements
 
 of_sent : (reading : Reading) (records : Records) (s : PlainSent) → sent_of records (sender_between reading records s) ≡ sent_element_by records s
-of_sent reading records (Entry side x) = refl
+of_sent reading records (Entry side x part) = refl
 of_sent reading records (Literal c) = refl
 
 abbrev moved_of : PlainSingle → Option SentElement → Moved

@@ -1,5 +1,5 @@
 -- Single moves that carry an occurrence of an item away and bring it back.
-use Rattle.std.proofs.Common.{◌≡◌, Bool, true, false, List, [], ◌∷◌, refl, sym, ap, subst, ◌∙◌, inl, inr}
+use Rattle.std.proofs.Common.{◌≡◌, Bool, true, false, List, [], ◌∷◌, None, refl, sym, ap, subst, ◌∙◌, inl, inr}
 use Rattle.std.specs.Bool.{Decides}
 use Rattle.cob_codec.specs.declared.reading.Reading.{Reading}
 use Rattle.cob_copybook_entry.specs.Described.{PlainValue}
@@ -49,14 +49,29 @@ abbrev sends_by : BothLayouts → sent_code.Sent → Sender
 sends_by l t = sender_of l (plain_sent t)
 
 pub comes_from : (l : BothLayouts) (s : code_single.SingleMove) (e : Element) (x : Occurrence) → s.sent ≡ sent.Entry In e → plain_element s.receiver ≡ x
-    → Goes (single_of l (plain_single s)) (plain_element e) x
-comes_from l s e x is at = record {
+    → e.part ≡ None → s.receiver.part ≡ None → Goes (single_of l (plain_single s)) (plain_element e) x
+comes_from l s e x is at sends gets = record {
   reading = l.reading;
-  operand = operand_at l.input.now (plain_element e);
+  operand = operand_at l.input.now (plain_element e) e.part;
   sends = ap (sends_by l) is;
   leaves = refl;
   reaches = at;
+  sends_whole = sends;
+  gets_whole = gets;
 }
+
+-- a part receives, or is sent
+pub part_receives : (l : BothLayouts) (s : code_single.SingleMove) (from x : Occurrence) (b : Bool) → b ≡ false → Decides b (s.receiver.part ≡ None) → Goes (single_of l (plain_single s)) from x → ⊥
+part_receives l s from x true never is goes = let no : true ≡ false = never in cc
+part_receives l s from x false never is goes = let no : false ≡ true = is.1 goes.gets_whole in cc
+
+pub part_sent : (l : BothLayouts) (s : code_single.SingleMove) (e : Element) (from x : Occurrence) (b : Bool) → s.sent ≡ sent.Entry In e → b ≡ false → Decides b (e.part ≡ None) → Goes (single_of l (plain_single s)) from x → ⊥
+part_sent l s e from x true is never whole goes = let no : true ≡ false = never in cc
+part_sent l s e from x false is never whole goes =
+    let one : operand_at l.input.now (plain_element e) e.part ≡ goes.operand =
+    operand_is l.reading goes.reading (operand_at l.input.now (plain_element e) e.part) goes.operand (sym (ap (sends_by l) is) ∙ goes.sends) in
+    let no : false ≡ true = whole.1 (ap (λ (o : Operand). o.entry.part) one ∙ goes.sends_whole) in
+    cc
 
 not_out : (l : BothLayouts) (e : Element) (x : Reading) (o : Operand) → sends_by l (sent.Entry Out e) ≡ Entry In x o → ⊥
 not_out l e x o h = cc

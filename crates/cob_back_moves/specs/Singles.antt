@@ -1,5 +1,5 @@
 -- What is asked of single moves, each of a sender to one of its receivers.
-use Rattle.std.specs.Prelude.{◌≡◌, ◌⊎◌, List, [], ◌∷◌}
+use Rattle.std.specs.Prelude.{◌≡◌, ◌⊎◌, List, [], ◌∷◌, None}
 use Rattle.cob_codec.specs.declared.reading.Reading.{Reading}
 use Rattle.cob_copybook_tree.specs.declared.node.Kind.{Kind}
 use Rattle.cob_copybook_tree.specs.declared.node.Kind.TheVariants.{Group, Item as ItemKind}
@@ -50,10 +50,12 @@ abbrev pub ReceiveOnce : List SingleMove → Type 0
 ReceiveOnce [] = Unit {0}
 ReceiveOnce (s ∷ ss) = (Receives (occurrence_of s.receiver) ss → ⊥) × ReceiveOnce ss
 
--- the single move goes from this occurrence of the input record to that one
+-- the single move goes from this occurrence of the input record to that one: from all of it to all of it, not from a part or to one
 pub record Goes (s : SingleMove) (from to : Occurrence) : Type 0 where
   pub reading : Reading
   pub operand : Operand
   pub sends : s.sender ≡ Entry In reading operand
   pub leaves : occurrence_of operand ≡ from
   pub reaches : occurrence_of s.receiver ≡ to
+  pub sends_whole : operand.entry.part ≡ None
+  pub gets_whole : s.receiver.entry.part ≡ None

@@ -11,7 +11,7 @@ ghost use Rattle.cob_move_data.specs.Singles.{occurrence, operand_at, plain_elem
 ghost use Rattle.cob_back_moves.specs.Tested.{AreSound, IsSingle, single_of};
 
 use crate::noted::noted_for;
-use crate::single::{BothLayouts, is_at, kind_of};
+use crate::single::{BothLayouts, is_at, is_whole, kind_of};
 use crate::some::{Condition, MovesBetween, some_meets};
 use crate::wider::loses_nothing;
 use cob_copybook_tree::{Item, Kind};
@@ -48,7 +48,8 @@ struct BroughtHome<'a> {
     to: ItemElement<'a>,
 }
 
-/// Where a single move to this occurrence comes from; None where it goes to another one, or comes from no entry of the input record.
+/// Where a single move to this occurrence comes from; None where it goes to another one or to a part, or comes from no entry of the input record, or from a
+/// part of one.
 fn origin<'a>(
     layouts: &BothLayouts<'_>,
     single: &SingleMove<'a>,
@@ -64,9 +65,13 @@ fn origin<'a>(
     if !is_at(&single.receiver, number, subscripts) {
         return None;
     }
+    if !is_whole(&single.receiver) {
+        return None;
+    }
     match single.sent {
         Sent::Entry { side, entry } => match side {
-            Side::In => Some(entry),
+            Side::In if is_whole(&entry) => Some(entry),
+            Side::In => None,
             Side::Out => None,
         },
         Sent::Constant(_) => None,
@@ -77,11 +82,11 @@ fn origin<'a>(
 fn loses_nothing_at(layouts: &BothLayouts<'_>, element: &Element<'_>, item: &Item) -> bool
     requires sound { AreSound layouts.now }
     requires operand { IsOperand layouts.now.output.now
-        (operand_at layouts.now.output.now (plain_element element.now)) }
+        (operand_at layouts.now.output.now (plain_element element.now) element.now.part) }
     ensures { Decides result (LosesNothingAs item.now
-        (operand_at layouts.now.output.now (plain_element element.now)).kind) }
+        (operand_at layouts.now.output.now (plain_element element.now) element.now.part).kind) }
 {
-    match kind_of(layouts.output, element) {
+    match kind_of(layouts.output, element).get() {
         Kind::Group => false,
         Kind::Item(other) => loses_nothing(item, other),
     }

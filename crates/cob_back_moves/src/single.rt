@@ -1,6 +1,6 @@
 //! Single moves between the records of two layouts, and what is asked of them.
 
-ghost use Rattle.std.specs.Prelude.{◌≡◌, IsTrue};
+ghost use Rattle.std.specs.Prelude.{◌≡◌, IsTrue, None};
 ghost use Rattle.std.specs.Bool.{Decides};
 ghost use Rattle.cob_layout.specs.Sound.{IsSound};
 ghost use Rattle.cob_move_data.specs.Moves.{IsOperand, IsSender, record_of};
@@ -11,9 +11,10 @@ ghost use Rattle.cob_back_moves.specs.Tested.{AreSound, IsSingle, PassesTest, la
 use crate::kinds::{is_item, is_read_pictured};
 use crate::named::bears_name;
 use cob_codec::Reading;
-use cob_copybook_tree::{Kind, Node};
+use cob_copybook_tree::Node;
 use cob_layout::Layout;
-use cob_move_data::{Element, Sent, Side, SingleMove};
+use cob_layout_places::characters_are_few;
+use cob_move_data::{Element, OperandKind, Sent, Side, SingleMove};
 
 /// The layouts of the two records that moves go between, and how their binary items are read that are sent.
 #[derive(Clone, Copy)]
@@ -68,13 +69,23 @@ pub(crate) fn is_at(element: &Element<'_>, number: usize, subscripts: &[u32]) ->
     element.number == number && are_same_subscripts(element.subscripts, subscripts)
 }
 
-/// What an occurrence of an entry of the record of a layout describes.
-pub(crate) fn kind_of<'a>(layout: &'a Layout, element: &Element<'_>) -> &'a Kind
-    requires sound { IsSound layout.now }
-    requires operand { IsOperand layout.now (operand_at layout.now (plain_element element.now)) }
-    ensures { result.now ≡ (operand_at layout.now (plain_element element.now)).kind }
+/// Whether all of an occurrence is meant, and no part of it.
+pub(crate) fn is_whole(element: &Element<'_>) -> bool
+    ensures { Decides result (element.now.part ≡ None) }
 {
-    layout.kind(element.number)
+    element.part.is_none()
+}
+
+/// What an occurrence of an entry of the record of a layout describes, or a part of it.
+pub(crate) fn kind_of<'a>(layout: &'a Layout, element: &Element<'_>) -> OperandKind<'a>
+    requires sound { IsSound layout.now }
+    requires operand { IsOperand layout.now
+        (operand_at layout.now (plain_element element.now) element.now.part) }
+    ensures { result ≡ (operand_at layout.now (plain_element element.now) element.now.part).kind }
+{
+    // For what a part asks: it has no more characters than the longest record.
+    characters_are_few();
+    OperandKind::new(element.part, layout.kind(element.number))
 }
 
 /// Whether what is sent is an item of the input record.
@@ -87,7 +98,7 @@ fn is_input_item(layouts: &BothLayouts<'_>, sent: &Sent<'_>) -> bool
     match sent {
         Sent::Constant(_) => false,
         Sent::Entry { side, entry } => match *side {
-            Side::In => is_item(kind_of(layouts.input, entry)),
+            Side::In => is_item(kind_of(layouts.input, entry).get()),
             Side::Out => false,
         },
     }
@@ -103,8 +114,8 @@ fn is_sent_pictured(layouts: &BothLayouts<'_>, sent: &Sent<'_>) -> bool
     match sent {
         Sent::Constant(_) => true,
         Sent::Entry { side, entry } => match *side {
-            Side::In => is_read_pictured(layouts.reading, kind_of(layouts.input, entry)),
-            Side::Out => is_read_pictured(layouts.reading, kind_of(layouts.output, entry)),
+            Side::In => is_read_pictured(layouts.reading, kind_of(layouts.input, entry).get()),
+            Side::Out => is_read_pictured(layouts.reading, kind_of(layouts.output, entry).get()),
         },
     }
 }
@@ -115,7 +126,7 @@ fn is_elementary(layouts: &BothLayouts<'_>, single: &SingleMove<'_>) -> bool
     requires single { IsSingle layouts.now (single_of layouts.now (plain_single single.now)) }
     ensures { Decides result (IsElementary (single_of layouts.now (plain_single single.now))) }
 {
-    is_input_item(layouts, &single.sent) && is_item(kind_of(layouts.output, &single.receiver))
+    is_input_item(layouts, &single.sent) && is_item(kind_of(layouts.output, &single.receiver).get())
 }
 
 /// Whether a single move is as is asked.

@@ -245,6 +245,7 @@ impl Layout {
         Some(Ref {
             node,
             subscripts: own,
+            part: None,
         })
     }
 

@@ -28,6 +28,7 @@ fn whole_record() -> Ref
     Ref {
         node: 0,
         subscripts: ArrayVec::new(),
+        part: None,
     }
 }
 

@@ -9,3 +9,5 @@ pub mod NeedLemmas
 pub mod AgreeLaw
 pub mod PlaceLaw
 pub mod SpotLemmas
+pub mod PartLaw
+pub mod MeasuredLemmas

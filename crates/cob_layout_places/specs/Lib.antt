@@ -6,3 +6,4 @@ pub mod Needs
 pub mod Agree
 pub mod References
 pub mod Spots
+pub mod Parts

@@ -2,6 +2,7 @@ ghost use Rattle.std.specs.Prelude.{ℕ, List};
 ghost use Rattle.cob_copybook_tree.specs.Lengths.{greatest_number};
 ghost use Rattle.cob_layout_places.specs.Lengths.{times};
 ghost use Rattle.cob_layout_places.specs.Needs.{NeedsAreRead};
+ghost use Rattle.cob_layout_places.specs.Parts.{CharactersAreBytes, CharactersAreFew, EntriesAreMeasured};
 ghost use Rattle.cob_layout_places.specs.Places.{EndInRecord, EntryEndsInRecord};
 ghost use Rattle.cob_layout_places.specs.Counts.{OneOutcome};
 ghost use Rattle.cob_layout_places.specs.Agree.{OnePlace, SameCounts};
@@ -38,4 +39,19 @@ pub fn one_place()
 /// The counts that are read for the place of an entry are those that it needs, but for those that it is spared where it receives.
 pub fn needs_are_read()
     ensures { NeedsAreRead }
+{}
+
+/// An element that has characters has a byte for each, wherever it stands.
+pub fn characters_are_bytes()
+    ensures { CharactersAreBytes }
+{}
+
+/// Each entry of a record, with all its elements, is no longer than the longest record.
+pub fn entries_are_measured()
+    ensures { EntriesAreMeasured }
+{}
+
+/// No element of a record has more characters than the longest record.
+pub fn characters_are_few()
+    ensures { CharactersAreFew }
 {}

@@ -11,7 +11,9 @@
 //!   redefinition (specs/Cover.antt).
 //! - [`put_spots`] writes where the first element of each entry stands, how long it is, and how often the entry occurs, in one walk over the
 //!   record (`spots_of` of specs/Spots.antt), and [`Spot::of`] looks one up.
-//! - A [`Ref`] is a reference to an element of an entry: which ones are legal `Refers` of specs/References.antt says.
+//! - A [`Ref`] is a reference to an element of an entry, or to a part of it ([`ItemPart`]): which ones are legal `Refers` of specs/References.antt and
+//!   `IsPartIn` of specs/Parts.antt say. [`characters_of`] counts the characters of which a part may be named; [`characters_are_bytes`] says that an element
+//!   with characters has a byte for each, wherever it stands.
 //! - [`tables`] lists the tables that vary. [`count_of`] and [`count_there`] take the count of one from a storage, or answer that it ends past the bytes
 //!   or gives no number within its table's bounds (`IsCounted` of specs/Counts.antt); [`count_at`] does so where the count's item is known
 //!   (`SaysOfTable`). All of them, taken one behind another, have one outcome (`Taken`,
@@ -28,10 +30,11 @@
 //!
 //! # Where it is proved
 //!
-//! The clauses of `element_of`, `seek`, `count_of`, `count_there`, `take_needed`, `tables`; its laws.
+//! The clauses of `element_of`, `characters_of`, `seek`, `count_of`, `count_there`, `take_needed`, `tables`; its laws.
 #![tactic(auto)]
 
 mod counts;
+mod item_parts;
 mod laws;
 mod lengths;
 mod naturals;
@@ -43,12 +46,14 @@ mod varying;
 
 pub use cob_copybook_tree::{Kind, Name, Node, is_number_item, read_number};
 pub use counts::{CountFault, count_at, count_of, count_there};
+pub use item_parts::characters_of;
 pub use laws::{
-    covering, needs_are_read, one_outcome, one_place, places_end_in_record, same_counts,
+    characters_are_bytes, characters_are_few, covering, entries_are_measured, needs_are_read,
+    one_outcome, one_place, places_end_in_record, same_counts,
 };
 pub use lengths::{element_of, times_of};
 pub use needs::{is_needed, is_table, take_needed};
 pub use places::{Found, seek};
-pub use reference::Ref;
+pub use reference::{ItemPart, Ref};
 pub use spots::{Spot, put_spots};
 pub use varying::{Table, tables};

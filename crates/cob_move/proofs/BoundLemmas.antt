@@ -41,6 +41,7 @@ group_none k is i b = absurd (let never : Group ≡ ItemKind i = sym is ∙ b.is
 
 pub bound_breaks : (r : MoveRule) (e : Entries) (w : WrittenReference) (ws : List Lexeme) → IsReference w ws → BreaksReference r (nameable e) w → BoundRefused r e ws
 bound_breaks rule.Subscripts e w ws is breaks = (w, is, breaks)
+bound_breaks rule.Part e w ws is breaks = (w, is, breaks)
 bound_breaks rule.Unknown e w ws is breaks = (w, is, breaks)
 bound_breaks rule.Ambiguous e w ws is breaks = (w, is, breaks)
 bound_breaks rule.Memory e w ws is breaks = absurd breaks

@@ -35,6 +35,7 @@ pub sending_fault : (r : MoveRule) (all : List Candidate) (from to : WrittenRefe
 sending_fault rule.Unknown all from to input output h = inl h
 sending_fault rule.Ambiguous all from to input output h = inl h
 sending_fault rule.Subscripts all from to input output h = inl h
+sending_fault rule.Part all from to input output h = inl h
 sending_fault r all from to input output h = absurd h
 
 pub receiving_fault : (r : MoveRule) (all : List Candidate) (from to : WrittenReference) (input output : Forest Resolved)
@@ -42,6 +43,7 @@ pub receiving_fault : (r : MoveRule) (all : List Candidate) (from to : WrittenRe
 receiving_fault rule.Unknown all from to input output h = inr (inl h)
 receiving_fault rule.Ambiguous all from to input output h = inr (inl h)
 receiving_fault rule.Subscripts all from to input output h = inr (inl h)
+receiving_fault rule.Part all from to input output h = inr (inl h)
 receiving_fault rule.Receiver all from to input output h = inl h
 receiving_fault r all from to input output h = absurd h
 
@@ -64,6 +66,7 @@ pair_fault rule.Grammar all from to input output g named h = absurd (none_of (Br
 pair_fault rule.Unknown all from to input output g named h = absurd (none_of (BreaksPair rule.Unknown) (λ p b. b) (pairs_of input output g) h)
 pair_fault rule.Ambiguous all from to input output g named h = absurd (none_of (BreaksPair rule.Ambiguous) (λ p b. b) (pairs_of input output g) h)
 pair_fault rule.Subscripts all from to input output g named h = absurd (none_of (BreaksPair rule.Subscripts) (λ p b. b) (pairs_of input output g) h)
+pair_fault rule.Part all from to input output g named h = absurd (none_of (BreaksPair rule.Part) (λ p b. b) (pairs_of input output g) h)
 pair_fault rule.Receiver all from to input output g named h = absurd (none_of (BreaksPair rule.Receiver) (λ p b. b) (pairs_of input output g) h)
 pair_fault rule.Groups all from to input output g named h = absurd (none_of (BreaksPair rule.Groups) (λ p b. b) (pairs_of input output g) h)
 pair_fault rule.Twice all from to input output g named h = absurd (none_of (BreaksPair rule.Twice) (λ p b. b) (pairs_of input output g) h)

@@ -210,6 +210,8 @@ bound_refused reference named none rule.Ambiguous all ws t is (w, spelled, broke
     none all w t.side t.bound rule.Ambiguous (subst (λ (v : WrittenReference). NamesOperand all v t.side t.bound) (reference ws is.reference w is.spelled spelled) is.named) broken
 bound_refused reference named none rule.Subscripts all ws t is (w, spelled, broken) =
     none all w t.side t.bound rule.Subscripts (subst (λ (v : WrittenReference). NamesOperand all v t.side t.bound) (reference ws is.reference w is.spelled spelled) is.named) broken
+bound_refused reference named none rule.Part all ws t is (w, spelled, broken) =
+    none all w t.side t.bound rule.Part (subst (λ (v : WrittenReference). NamesOperand all v t.side t.bound) (reference ws is.reference w is.spelled spelled) is.named) broken
 bound_refused reference named none rule.Counter all ws t is (w, side, o, spelled, names, no_number) =
     let same = named all w t.side side t.bound o (subst (λ (v : WrittenReference). NamesOperand all v t.side t.bound) (reference ws is.reference w is.spelled spelled) is.named) names in
     no_number is.item.0 (subst (λ (k : Operand). IsBoundItem k.kind is.item.0) same.1 is.item.1)

@@ -26,8 +26,8 @@ use Rattle.cob_move.specs.Loops.{RunRefused}
 use Rattle.cob_move.proofs.DeedsLemmas.{either_side, up_to_some}
 use Rattle.cob_move.proofs.FewLemmas.{refused_joined}
 use Rattle.cob_move.proofs.MadeLemmas.{either_memory, told_refused}
-use Rattle.cob_move.specs.Paragraphs.{has_choice}
-use Rattle.cob_move.proofs.MixedTurns.{late_within, plain_so}
+use Rattle.cob_move.specs.Paragraphs.{IsPlainPassage}
+use Rattle.cob_move.proofs.MixedTurns.{late_within}
 use Rattle.cob_move.proofs.ReadingLemmas.{refused_behind}
 
 -- ---- words of MOVE statements
@@ -151,7 +151,7 @@ reads_same number next size mid after kept passed = elim (either_side number nex
 ]
 
 pub next_sure : OneDeeds → OneListOfEnded → OneReference → (e : Entries) (ns : List Counted) (l : WrittenLoop) (body : List Lexeme) (step number next deepest before : ℕ) (size : Sizes) (now mid after : MadeLists) → number ≡ l.from + step
-    → AddsDeeds e (in_its_turn ns l number) body now mid → ((p : Passage) → IsPassage p body → (has_choice p ≡ false) × (deep p ≤ deepest)) → before ≡ mid.read - now.read → mid.read + before * (deepest + 1) ≤ most_written_out
+    → AddsDeeds e (in_its_turn ns l number) body now mid → ((p : Passage) → IsPassage p body → IsPlainPassage p × (deep p ≤ deepest)) → before ≡ mid.read - now.read → mid.read + before * (deepest + 1) ≤ most_written_out
     → (number ≡ next → after ≡ without_flows (closed mid)) → ((number ≡ next → ⊥) → after ≡ taken_back size mid) → IsSure e (in_its_turn ns l (l.from + (step + 1))) body after.read
 next_sure law ended one e ns l body step number next deepest before size now mid after at adds low own few kept passed p is le many first =
     let a = adds p is in

@@ -153,6 +153,7 @@ run_refused (rule.Source s) line ws fault is = absurd is
 run_refused rule.Unknown line ws fault is = absurd is
 run_refused rule.Ambiguous line ws fault is = absurd is
 run_refused rule.Subscripts line ws fault is = absurd is
+run_refused rule.Part line ws fault is = absurd is
 run_refused rule.Receiver line ws fault is = absurd is
 run_refused rule.NotAllowed line ws fault is = absurd is
 run_refused rule.Literal line ws fault is = absurd is
@@ -231,6 +232,7 @@ pub unknown_entry : (all : List Candidate) (w : WrittenReference) (r : MoveRule)
 unknown_entry all w rule.Unknown broken none = refl
 unknown_entry all w rule.Ambiguous broken none = absurd (omega (arith, broken, ap length none))
 unknown_entry all w rule.Subscripts (c, one, bad) none = let never : c ∷ [] ≡ [] = sym one ∙ none in absurd cc
+unknown_entry all w rule.Part (c, one, bad) none = let never : c ∷ [] ≡ [] = sym one ∙ none in absurd cc
 unknown_entry all w rule.Grammar broken none = absurd broken
 unknown_entry all w (rule.Source s) broken none = absurd broken
 unknown_entry all w rule.Receiver broken none = absurd broken

@@ -265,6 +265,7 @@ either_memory rule.Grammar = inr (λ e. absurd (let never : rule.Grammar ≡ rul
 either_memory rule.Unknown = inr (λ e. absurd (let never : rule.Unknown ≡ rule.Memory = e in cc))
 either_memory rule.Ambiguous = inr (λ e. absurd (let never : rule.Ambiguous ≡ rule.Memory = e in cc))
 either_memory rule.Subscripts = inr (λ e. absurd (let never : rule.Subscripts ≡ rule.Memory = e in cc))
+either_memory rule.Part = inr (λ e. absurd (let never : rule.Part ≡ rule.Memory = e in cc))
 either_memory rule.Receiver = inr (λ e. absurd (let never : rule.Receiver ≡ rule.Memory = e in cc))
 either_memory rule.NotAllowed = inr (λ e. absurd (let never : rule.NotAllowed ≡ rule.Memory = e in cc))
 either_memory rule.Literal = inr (λ e. absurd (let never : rule.Literal ≡ rule.Memory = e in cc))

@@ -1,5 +1,5 @@
 -- Mixed statements that have a meaning in the first two turns have one in the third.
-use Rattle.std.proofs.Common.{◌≡◌, ◌⊎◌, inl, inr, ℕ, ◌||◌, List, [], ◌∷◌, ◌++◌, map, refl, sym, ap, subst, ◌∙◌}
+use Rattle.std.proofs.Common.{◌≡◌, ◌⊎◌, inl, inr, ℕ, ◌||◌, List, [], ◌∷◌, ◌++◌, Option, map, refl, sym, ap, subst, ◌∙◌}
 use Rattle.std.specs.List.{AllByRecursion}
 use Rattle.cob_codec.specs.declared.reading.Reading.TheVariants.{Pictured}
 use Rattle.cob_copybook_entries.specs.Meaning.{IsConstantOf}
@@ -11,19 +11,20 @@ use Rattle.cob_copybook_tree.specs.Nodes.{Resolved}
 use Rattle.cob_move_data.specs.declared.operands.Operand.{Operand}
 use Rattle.cob_move_data.specs.declared.operands.Side.{Side}
 use Rattle.cob_move_data.specs.declared.operands.Side.TheVariants.{Out}
-use Rattle.cob_move_data.specs.Moves.{Entry, Move, Sender}
+use Rattle.cob_move_data.specs.Moves.{Entry, Move, Sender, kind_of_part}
 use Rattle.cob_move_names.specs.Candidates.{Candidate, all_entries}
 use Rattle.cob_move_names.specs.Pairs.{AreOnce, Pair, is_elementary}
-use Rattle.cob_move_names.specs.References.{AreSubscriptsOf, IsSubscriptOf, NamesOperand, operand, subscript_numbers}
+use Rattle.cob_move_names.specs.References.{AreSubscriptsOf, HasPart, IsSubscriptOf, NamesOperand, operand, part_meant, subscript_numbers}
 use Rattle.cob_move_receive.specs.Refusals.{IsAllowed}
 use Rattle.cob_move_receive.specs.Table.{SenderKind}
 use Rattle.cob_move_statements.specs.Laws.{OneListOfEnded}
 use Rattle.cob_move_statements.specs.Statements.{IsEndedStatement}
-use Rattle.cob_move_statements.specs.Written.{MoveCorresponding, MoveTo, SentConstant, SentReference, WrittenAction, WrittenReference, WrittenSender, WrittenStatement}
+use Rattle.cob_move_statements.specs.Written.{MoveCorresponding, MoveTo, SentConstant, SentReference, WrittenAction, WrittenPart, WrittenReference, WrittenSender, WrittenStatement}
 use Rattle.cob_source.specs.Tokens.{Lexeme}
 use Rattle.cob_move.specs.declared.corresponding.TwoGroups.{TwoGroups}
 use Rattle.cob_move.specs.Deeds.{IsRunMeant}
 use Rattle.cob_move.specs.Meaning.{AreMeanings, AreMeant, AreMovesOf, AreReceiversOf, IsAllowedMove, IsMeaning, IsMoveOf, pair_move, pairs_of}
+use Rattle.cob_move.specs.Paragraphs.{HaveNoColon}
 use Rattle.cob_move_names.specs.Senders.{IsSenderOf, kind_of_sender}
 use Rattle.cob_move.proofs.MixedStatements.{AllMixed, AreMixedActions, AreMixedReferences, AreMixedSenders, AreMixedStatements, AreMixedTexts, mixed_ended, mixed_length, mixed_several}
 use Rattle.cob_move.proofs.MixedWords.{AreMixed}
@@ -64,16 +65,17 @@ pub mixed_named : (all : List Candidate) (r s t : WrittenReference) (side edis :
 mixed_named all r s t side edis o p m first second =
     let same : first.bearer ≡ second.bearer = one_bearer all r.name s.name r.qualifiers s.qualifiers first.bearer second.bearer m.first.0 m.first.1 first.only second.only in
     record {
-      operand = operand second.bearer (subscript_numbers t.subscripts);
+      operand = operand second.bearer (subscript_numbers t.subscripts) t.part;
       named = record {
         bearer = second.bearer;
         only = ap (λ (x : List ℕ). named x t.qualifiers all) m.third.0 ∙ ap (λ (x : List (List ℕ)). named s.name x all) m.third.1 ∙ second.only;
         subscripts = mixed_elements second.bearer.entry.tables r.subscripts s.subscripts t.subscripts
             (subst (λ (c : Candidate). AreSubscriptsOf c.entry.tables r.subscripts) same first.subscripts) second.subscripts m.subscripts;
+        parted = subst (HasPart second.bearer.entry.characters) (sym m.whole.1.1) tt;
         stands = second.stands;
         is = refl;
       };
-      kind = ap (λ (x : Operand). x.kind) (sym second.is);
+      kind = ap (λ (x : Option WrittenPart). kind_of_part (part_meant second.bearer.entry.characters x) second.bearer.entry.kind) (m.whole.1.1 ∙ sym m.whole.1.0) ∙ ap (λ (x : Operand). x.kind) (sym second.is);
       node = ap (λ (x : Operand). x.entry.node) (sym second.is);
     }
 
@@ -81,7 +83,8 @@ mixed_named all r s t side edis o p m first second =
 pub same_kind : (all : List Candidate) (r s t : WrittenReference) (side edis : Side) (o p : Operand) → AreMixedReferences r s t → NamesOperand all r side o → NamesOperand all s edis p → o.kind ≡ p.kind
 same_kind all r s t side edis o p m first second =
     let same : first.bearer ≡ second.bearer = one_bearer all r.name s.name r.qualifiers s.qualifiers first.bearer second.bearer m.first.0 m.first.1 first.only second.only in
-    ap (λ (x : Operand). x.kind) first.is ∙ ap (λ (c : Candidate). c.entry.kind) same ∙ ap (λ (x : Operand). x.kind) (sym second.is)
+    ap (λ (x : Operand). x.kind) first.is ∙ ap (λ (c : Candidate). kind_of_part (part_meant c.entry.characters r.part) c.entry.kind) same
+    ∙ ap (λ (x : Option WrittenPart). kind_of_part (part_meant second.bearer.entry.characters x) second.bearer.entry.kind) (m.whole.0 ∙ sym m.whole.1.0) ∙ ap (λ (x : Operand). x.kind) (sym second.is)
 
 -- ---- MOVE
 
@@ -161,8 +164,8 @@ mixed_groups all input output r s t u v w m n froms tos first second =
     let to = mixed_named all u v w Out Out first.groups.to h.to tos first.named.receiving second.named.receiving in
     let g : TwoGroups = record { side = h.side; from = from.operand; to = to.operand } in
     let same : pairs_of input output g ≡ pairs_of input output h =
-    ap (λ (x : ℕ). pairs_of input output (record { side = h.side; from = record { entry = record { node = x; subscripts = from.operand.entry.subscripts }; kind = from.operand.kind }; to = to.operand })) from.node
-    ∙ ap (λ (x : ℕ). pairs_of input output (record { side = h.side; from = h.from; to = record { entry = record { node = x; subscripts = to.operand.entry.subscripts }; kind = to.operand.kind } })) to.node in (
+    ap (λ (x : ℕ). pairs_of input output (record { side = h.side; from = record { entry = record { node = x; subscripts = from.operand.entry.subscripts; part = from.operand.entry.part }; kind = from.operand.kind }; to = to.operand })) from.node
+    ∙ ap (λ (x : ℕ). pairs_of input output (record { side = h.side; from = h.from; to = record { entry = record { node = x; subscripts = to.operand.entry.subscripts; part = to.operand.entry.part }; kind = to.operand.kind } })) to.node in (
       map (pair_move g) (pairs_of input output g),
       record {
         groups = g;
@@ -206,10 +209,10 @@ mixed_meanings all input output (r ∷ rs) (s ∷ ss) (t ∷ ts) m n (mixed, mor
 -- ---- words
 
 -- where words have a meaning in the first two turns, they have one in the third, with as many statements in each
-pub mixed_run : OneListOfEnded → (input output : Forest Resolved) (us vs ws : List Lexeme) (m n : List Move) (c d : ℕ) → AreMixed us vs ws → IsRunMeant input output us m c → IsRunMeant input output vs n d
+pub mixed_run : OneListOfEnded → (input output : Forest Resolved) (us vs ws : List Lexeme) (m n : List Move) (c d : ℕ) → AreMixed us vs ws → HaveNoColon vs → IsRunMeant input output us m c → IsRunMeant input output vs n d
     → (o : List Move) × IsRunMeant input output ws o d
-mixed_run ended input output us vs ws m n c d mixed first second =
-    let (rs, ts, spelled, delleps, all) = mixed_several IsEndedStatement AreMixedStatements mixed_ended second.statements vs us ws second.spelled mixed in
+mixed_run ended input output us vs ws m n c d mixed plain first second =
+    let (rs, ts, spelled, delleps, all) = mixed_several IsEndedStatement AreMixedStatements mixed_ended second.statements vs us ws second.spelled mixed plain in
     let one : rs ≡ first.statements = ended us rs first.statements spelled first.spelled in
     let (long, gnol) = mixed_length AreMixedStatements rs second.statements ts all in
     let (o, third) = mixed_meanings (all_entries input output) input output rs second.statements ts m n all

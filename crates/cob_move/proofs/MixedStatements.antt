@@ -14,9 +14,10 @@ use Rattle.cob_copybook_clauses.specs.Terms.{word_class}
 use Rattle.cob_copybook_clauses.specs.Written.{Figure, Quoted, Repeated, Word, WrittenValue}
 use Rattle.cob_copybook_entries.specs.Parts.{IsLiteralOf}
 use Rattle.cob_move_loops.specs.Words.{IsPeriod}
-use Rattle.cob_move_statements.specs.Statements.{AreSubscripts, IsAction, IsBracketed, IsEndedStatement, IsNumeral, IsReference, IsStatement, IsWrittenSender, NoName, Several}
-use Rattle.cob_move_statements.specs.Written.{MoveCorresponding, MoveTo, SentConstant, SentReference, WrittenAction, WrittenReference, WrittenSender, WrittenStatement, word_texts}
-use Rattle.cob_move.proofs.MixedWords.{AreMixed, IsMixed, IsNumberWord}
+use Rattle.cob_move_statements.specs.Statements.{AreSubscripts, IsAction, IsBracketed, IsEndedStatement, IsNumeral, IsPart, IsReference, IsStatement, IsWrittenSender, NoName, Several}
+use Rattle.cob_move_statements.specs.Written.{MoveCorresponding, MoveTo, SentConstant, SentReference, WrittenAction, WrittenPart, WrittenReference, WrittenSender, WrittenStatement, word_texts}
+use Rattle.cob_move.specs.Paragraphs.{HaveNoColon}
+use Rattle.cob_move.proofs.MixedWords.{AreMixed, IsMixed, IsNumberWord, colons_apart}
 
 -- ---- lists of mixed words
 
@@ -151,10 +152,16 @@ pub record AreMixedReferences (r s t : WrittenReference) : Type 0 where
   pub first : (r.name ≡ s.name) × (r.qualifiers ≡ s.qualifiers)
   pub third : (t.name ≡ s.name) × (t.qualifiers ≡ s.qualifiers)
   pub subscripts : AreMixedTexts r.subscripts s.subscripts t.subscripts
+  pub whole : (r.part ≡ None) × (s.part ≡ None) × (t.part ≡ None)
+
+-- words without a colon are no part
+no_part_in : (p : Option WrittenPart) (ws : List Lexeme) → IsPart p ws → HaveNoColon ws → (p ≡ None) × (ws ≡ [])
+no_part_in None ws is none = (refl, is)
+no_part_in (Some p) ws is none = let words = subst HaveNoColon is.words none in absurd (words.1.1.0 is.parted)
 
 -- a reference with other subscripts
 abbrev subscripted : WrittenReference → List (List ℕ) → WrittenReference
-subscripted s subscripts = record { name = s.name; qualifiers = s.qualifiers; subscripts = subscripts }
+subscripted s subscripts = record { name = s.name; qualifiers = s.qualifiers; subscripts = subscripts; part = None }
 
 -- it is spelled so
 subscripted_words : (s : WrittenReference) (vs ws q brackets : List Lexeme) (w : Lexeme) (texts : List (List ℕ)) (is : IsReference s vs)
@@ -163,17 +170,33 @@ subscripted_words s vs ws q brackets w texts is words behind named are = record 
   named = is.named;
   behind = is.behind;
   brackets = brackets;
+  end = [];
   is = is.is;
   name = is.name;
   qualified = is.qualified;
   qualifiers = is.qualifiers;
   subscripted = are;
-  words = words ∙ ap (λ (t : List Lexeme). w ∷ t) behind ∙ ap (λ (x : Lexeme). x ∷ (is.behind ++ brackets)) named;
+  parted = refl;
+  words = words ∙ ap (λ (t : List Lexeme). w ∷ t) behind ∙ ap (λ (x : Lexeme). x ∷ (is.behind ++ brackets)) named
+      ∙ ap (λ (t : List Lexeme). is.named ∷ (is.behind ++ t)) (sym (append-nil brackets));
 }
 
-pub mixed_reference : (s : WrittenReference) (vs us ws : List Lexeme) → IsReference s vs → AreMixed us vs ws → (r t : WrittenReference) × IsReference r us × IsReference t ws × AreMixedReferences r s t
-mixed_reference s vs us ws is m =
-    let (u, w, r, q, e, f, name, rest) = mixed_head is.named (is.behind ++ is.brackets) us ws (subst (λ (x : List Lexeme). AreMixed us x ws) is.words m) in
+-- a reference without a colon: its name, qualifiers and subscripts
+whole_words : (s : WrittenReference) (vs : List Lexeme) (is : IsReference s vs) → HaveNoColon vs → (s.part ≡ None) × (vs ≡ is.named ∷ (is.behind ++ is.brackets))
+whole_words s vs is none =
+    let words = subst HaveNoColon is.words none in
+    let (behind, rest) = colons_apart is.behind (is.brackets ++ is.end) words.1 in
+    let (brackets, end) = colons_apart is.brackets is.end rest in
+    let (whole, nothing) = no_part_in s.part is.end is.parted end in (
+      whole,
+      is.words ∙ ap (λ (t : List Lexeme). is.named ∷ (is.behind ++ (is.brackets ++ t))) nothing ∙ ap (λ (t : List Lexeme). is.named ∷ (is.behind ++ t)) (append-nil is.brackets),
+    )
+
+pub mixed_reference : (s : WrittenReference) (vs us ws : List Lexeme) → IsReference s vs → AreMixed us vs ws → HaveNoColon vs
+    → (r t : WrittenReference) × IsReference r us × IsReference t ws × AreMixedReferences r s t
+mixed_reference s vs us ws is m none =
+    let (whole, words) = whole_words s vs is none in
+    let (u, w, r, q, e, f, name, rest) = mixed_head is.named (is.behind ++ is.brackets) us ws (subst (λ (x : List Lexeme). AreMixed us x ws) words m) in
     let (first, third) = kept u is.named w (number_no_name is.named is.is) name in
     let (o, b, p, c, g, h, front, back) = mixed_split is.behind is.brackets r q rest in
     let (same, emas) = same_qualifiers is.behind o p is.qualified front in
@@ -182,7 +205,7 @@ mixed_reference s vs us ws is m =
       subscripted s stxet,
       subscripted_words s vs us r b u texts is e (g ∙ ap (λ (t : List Lexeme). t ++ b) same) first are,
       subscripted_words s vs ws q c w stxet is f (h ∙ ap (λ (t : List Lexeme). t ++ c) emas) third era,
-      record { first = (refl, refl); third = (refl, refl); subscripts = mixed },
+      record { first = (refl, refl); third = (refl, refl); subscripts = mixed; whole = (refl, whole, refl) },
     )
 
 -- ---- senders
@@ -264,23 +287,23 @@ word_sender text u v w vs us ws is free words e f (inr (a, b, inr same)) =
 figure_kept : (w : Lexeme) (o : Option Figurative) → figurative_of (word_class w) ≡ o → (o ≡ None → ⊥) → IsNumberWord w → ⊥
 figure_kept w o is some n = some (sym is ∙ ap figurative_of n.plain)
 
-mixed_sender : (s : WrittenSender) (vs us ws : List Lexeme) → IsWrittenSender s vs → AreMixed us vs ws → SpelledSender s us ws
-mixed_sender (SentReference s) vs us ws is m = let (r, t, first, third, mixed) = mixed_reference s vs us ws is m in (SentReference r, SentReference t, first, third, mixed)
-mixed_sender (SentConstant (Word text)) vs us ws ((v, free, words), literal, none) m =
+mixed_sender : (s : WrittenSender) (vs us ws : List Lexeme) → IsWrittenSender s vs → AreMixed us vs ws → HaveNoColon vs → SpelledSender s us ws
+mixed_sender (SentReference s) vs us ws is m plain = let (r, t, first, third, mixed) = mixed_reference s vs us ws is m plain in (SentReference r, SentReference t, first, third, mixed)
+mixed_sender (SentConstant (Word text)) vs us ws ((v, free, words), literal, none) m plain =
     let (u, w, r, q, e, f, word, more) = mixed_head v [] us ws (subst (λ (x : List Lexeme). AreMixed us x ws) words m) in
     let (nil, lin) = mixed_nil r q more in
     word_sender text u v w vs us ws ((v, free, words), literal, none) free words (e ∙ ap (λ (t : List Lexeme). u ∷ t) nil) (f ∙ ap (λ (t : List Lexeme). w ∷ t) lin) word
-mixed_sender (SentConstant (Quoted text)) vs us ws ((v, literal, text_is, words), any, none) m =
+mixed_sender (SentConstant (Quoted text)) vs us ws ((v, literal, text_is, words), any, none) m plain =
     let (first, third) = one_kept v us ws (no_literal v literal) (subst (λ (x : List Lexeme). AreMixed us x ws) words m) in
     same_sender (Quoted text) vs us ws ((v, literal, text_is, words), any, none) (first ∙ sym words) (third ∙ sym words)
-mixed_sender (SentConstant (Figure g)) vs us ws (([], v, noise, figure, words), any, none) m =
+mixed_sender (SentConstant (Figure g)) vs us ws (([], v, noise, figure, words), any, none) m plain =
     let (first, third) = one_kept v us ws (figure_kept v (Some g) figure (λ k. cc)) (subst (λ (x : List Lexeme). AreMixed us x ws) words m) in
     same_sender (Figure g) vs us ws (([], v, noise, figure, words), any, none) (first ∙ sym words) (third ∙ sym words)
-mixed_sender (SentConstant (Figure g)) vs us ws ((a ∷ [], v, noise, figure, words), any, none) m =
+mixed_sender (SentConstant (Figure g)) vs us ws ((a ∷ [], v, noise, figure, words), any, none) m plain =
     let (first, third) = two_kept a v us ws (no_other term.All a (λ k. cc) noise) (figure_kept v (Some g) figure (λ k. cc)) (subst (λ (x : List Lexeme). AreMixed us x ws) words m) in
     same_sender (Figure g) vs us ws ((a ∷ [], v, noise, figure, words), any, none) (first ∙ sym words) (third ∙ sym words)
-mixed_sender (SentConstant (Figure g)) vs us ws ((a ∷ b ∷ more, v, noise, figure, words), any, none) m = absurd noise
-mixed_sender (SentConstant (Repeated text)) vs us ws ((a, v, is, literal, text_is, words), any, none) m =
+mixed_sender (SentConstant (Figure g)) vs us ws ((a ∷ b ∷ more, v, noise, figure, words), any, none) m plain = absurd noise
+mixed_sender (SentConstant (Repeated text)) vs us ws ((a, v, is, literal, text_is, words), any, none) m plain =
     let (first, third) = two_kept a v us ws (no_other term.All a (λ k. cc) is) (no_literal v literal) (subst (λ (x : List Lexeme). AreMixed us x ws) words m) in
     same_sender (Repeated text) vs us ws ((a, v, is, literal, text_is, words), any, none) (first ∙ sym words) (third ∙ sym words)
 
@@ -296,13 +319,14 @@ AllMixed Mixed (r ∷ rs) (s ∷ ss) [] = ⊥
 AllMixed Mixed (r ∷ rs) (s ∷ ss) (t ∷ ts) = Mixed r s t × AllMixed Mixed rs ss ts
 
 pub mixed_several : {V : Type 0} (Is : V → List Lexeme → Type 0) (Mixed : V → V → V → Type 0)
-    → ((s : V) (vs us ws : List Lexeme) → Is s vs → AreMixed us vs ws → (r t : V) × Is r us × Is t ws × Mixed r s t)
-    → (ss : List V) (vs us ws : List Lexeme) → Several Is ss vs → AreMixed us vs ws → (rs ts : List V) × Several Is rs us × Several Is ts ws × AllMixed Mixed rs ss ts
-mixed_several Is Mixed one [] vs us ws is m = let (first, third) = mixed_nil us ws (subst (λ (x : List Lexeme). AreMixed us x ws) is m) in ([], [], first, third, tt)
-mixed_several Is Mixed one (s ∷ ss) vs us ws (own, rest, is, words, several) m =
+    → ((s : V) (vs us ws : List Lexeme) → Is s vs → AreMixed us vs ws → HaveNoColon vs → (r t : V) × Is r us × Is t ws × Mixed r s t)
+    → (ss : List V) (vs us ws : List Lexeme) → Several Is ss vs → AreMixed us vs ws → HaveNoColon vs → (rs ts : List V) × Several Is rs us × Several Is ts ws × AllMixed Mixed rs ss ts
+mixed_several Is Mixed one [] vs us ws is m plain = let (first, third) = mixed_nil us ws (subst (λ (x : List Lexeme). AreMixed us x ws) is m) in ([], [], first, third, tt)
+mixed_several Is Mixed one (s ∷ ss) vs us ws (own, rest, is, words, several) m plain =
+    let (here, there) = colons_apart own rest (subst HaveNoColon words plain) in
     let (o, b, p, c, g, h, front, back) = mixed_split own rest us ws (subst (λ (x : List Lexeme). AreMixed us x ws) words m) in
-    let (r, t, first, third, mixed) = one s own o p is front in
-    let (rs, ts, firsts, thirds, all) = mixed_several Is Mixed one ss rest b c several back in
+    let (r, t, first, third, mixed) = one s own o p is front here in
+    let (rs, ts, firsts, thirds, all) = mixed_several Is Mixed one ss rest b c several back there in
     (r ∷ rs, t ∷ ts, (o, b, first, g, firsts), (p, c, third, h, thirds), (mixed, all))
 
 pub mixed_length : {V : Type 0} (Mixed : V → V → V → Type 0) (rs ss ts : List V) → AllMixed Mixed rs ss ts → (length rs ≡ length ss) × (length ts ≡ length ss)
@@ -331,13 +355,14 @@ AreMixedStatements r s t = AreMixedActions r.action s.action t.action
 abbrev SpelledAction : WrittenAction → List Lexeme → List Lexeme → Type 0
 SpelledAction s us ws = (r t : WrittenAction) × IsAction r us × IsAction t ws × AreMixedActions r s t
 
-mixed_action : (s : WrittenAction) (vs us ws : List Lexeme) → IsAction s vs → AreMixed us vs ws → SpelledAction s us ws
-mixed_action (MoveTo s ss) vs us ws (sender, receivers, between, sends, to, some, several, words) m =
+mixed_action : (s : WrittenAction) (vs us ws : List Lexeme) → IsAction s vs → AreMixed us vs ws → HaveNoColon vs → SpelledAction s us ws
+mixed_action (MoveTo s ss) vs us ws (sender, receivers, between, sends, to, some, several, words) m plain =
+    let (here, there) = colons_apart sender (between ∷ receivers) (subst HaveNoColon words plain) in
     let (o, b, p, c, g, h, front, back) = mixed_split sender (between ∷ receivers) us ws (subst (λ (x : List Lexeme). AreMixed us x ws) words m) in
     let (u, w, x, q, e, f, word, rest) = mixed_head between receivers b c back in
     let (first, third) = kept u between w (no_other term.To between (λ k. cc) to) word in
-    let (r, t, sent, tnes, mixed) = mixed_sender s sender o p sends front in
-    let (rs, ts, are, era, all) = mixed_several IsReference AreMixedReferences mixed_reference ss receivers x q several rest in
+    let (r, t, sent, tnes, mixed) = mixed_sender s sender o p sends front here in
+    let (rs, ts, are, era, all) = mixed_several IsReference AreMixedReferences mixed_reference ss receivers x q several rest there.1 in
     let (long, gnol) = mixed_length AreMixedReferences rs ss ts all in (
       MoveTo r rs,
       MoveTo t ts,
@@ -345,14 +370,16 @@ mixed_action (MoveTo s ss) vs us ws (sender, receivers, between, sends, to, some
       (p, q, between, tnes, to, omega (arith, gnol, some), era, h ∙ ap (λ (y : List Lexeme). p ++ y) f ∙ ap (λ (k : Lexeme). p ++ k ∷ q) third),
       (mixed, all),
     )
-mixed_action (MoveCorresponding from to) vs us ws (corresponding, between, sender, receiver, is, sends, stands, gets, words) m =
+mixed_action (MoveCorresponding from to) vs us ws (corresponding, between, sender, receiver, is, sends, stands, gets, words) m plain =
+    let none = subst HaveNoColon words plain in
+    let (here, there) = colons_apart sender (between ∷ receiver) none.1 in
     let (u, w, r, q, e, f, word, rest) = mixed_head corresponding (sender ++ between ∷ receiver) us ws (subst (λ (x : List Lexeme). AreMixed us x ws) words m) in
     let (o, b, p, c, g, h, front, back) = mixed_split sender (between ∷ receiver) r q rest in
     let (x, y, d, k, i, j, drow, last) = mixed_head between receiver b c back in
     let (first, third) = kept u corresponding w (no_other term.Corresponding corresponding (λ n. cc) is) word in
     let (tsrif, driht) = kept x between y (no_other term.To between (λ n. cc) stands) drow in
-    let (a, z, sent, tnes, mixed) = mixed_reference from sender o p sends front in
-    let (l, v, got, tog, dexim) = mixed_reference to receiver d k gets last in (
+    let (a, z, sent, tnes, mixed) = mixed_reference from sender o p sends front here in
+    let (l, v, got, tog, dexim) = mixed_reference to receiver d k gets last there.1 in (
       MoveCorresponding a l,
       MoveCorresponding z v,
       (
@@ -388,11 +415,12 @@ same_periods (v ∷ vs) us ws are m =
     let (same, emas) = same_periods vs r q are.1 rest in
     (e ∙ ap (λ (t : List Lexeme). u ∷ t) same ∙ ap (λ (k : Lexeme). k ∷ vs) first, f ∙ ap (λ (t : List Lexeme). w ∷ t) emas ∙ ap (λ (k : Lexeme). k ∷ vs) third)
 
-mixed_statement : (s : WrittenStatement) (vs us ws : List Lexeme) → IsStatement s vs → AreMixed us vs ws → (r t : WrittenStatement) × IsStatement r us × IsStatement t ws × AreMixedStatements r s t
-mixed_statement s vs us ws is m =
+mixed_statement : (s : WrittenStatement) (vs us ws : List Lexeme) → IsStatement s vs → AreMixed us vs ws → HaveNoColon vs → (r t : WrittenStatement) × IsStatement r us × IsStatement t ws × AreMixedStatements r s t
+mixed_statement s vs us ws is m plain =
+    let none = subst HaveNoColon is.words plain in
     let (u, w, r, q, e, f, word, rest) = mixed_head is.move is.behind us ws (subst (λ (x : List Lexeme). AreMixed us x ws) is.words m) in
     let (first, third) = kept u is.move w (no_other term.Move is.move (λ n. cc) is.is) word in
-    let (a, b, acts, stca, mixed) = mixed_action s.action is.behind r q is.acts rest in (
+    let (a, b, acts, stca, mixed) = mixed_action s.action is.behind r q is.acts rest none.1 in (
       record { line = s.line; action = a },
       record { line = s.line; action = b },
       record { move = is.move; behind = r; is = is.is; line = is.line; acts = acts; words = e ∙ ap (λ (k : Lexeme). k ∷ r) first },
@@ -400,10 +428,11 @@ mixed_statement s vs us ws is m =
       mixed,
     )
 
-pub mixed_ended : (s : WrittenStatement) (vs us ws : List Lexeme) → IsEndedStatement s vs → AreMixed us vs ws → (r t : WrittenStatement) × IsEndedStatement r us × IsEndedStatement t ws × AreMixedStatements r s t
-mixed_ended s vs us ws is m =
+pub mixed_ended : (s : WrittenStatement) (vs us ws : List Lexeme) → IsEndedStatement s vs → AreMixed us vs ws → HaveNoColon vs → (r t : WrittenStatement) × IsEndedStatement r us × IsEndedStatement t ws × AreMixedStatements r s t
+mixed_ended s vs us ws is m plain =
+    let (here, there) = colons_apart is.own is.stops (subst HaveNoColon is.words plain) in
     let (o, b, p, c, g, h, front, back) = mixed_split is.own is.stops us ws (subst (λ (x : List Lexeme). AreMixed us x ws) is.words m) in
-    let (r, t, first, third, mixed) = mixed_statement s is.own o p is.statement front in
+    let (r, t, first, third, mixed) = mixed_statement s is.own o p is.statement front here in
     let (same, emas) = same_periods is.stops b c is.are_stops back in (
       r,
       t,

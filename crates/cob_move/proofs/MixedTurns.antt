@@ -10,7 +10,7 @@ use Rattle.cob_move_data.specs.Moves.{Move}
 use Rattle.cob_move_deeds.specs.Deeds.{Deeds, Nothing}
 use Rattle.cob_move_deeds.specs.Tests.{IsBoundItem, Past, Test, Until, with_number}
 use Rattle.cob_move_deeds.specs.Turns.{turns_from}
-use Rattle.cob_move_loops.specs.Passages.{ABranch, AChoice, ALoop, Moves, NoMore, Passage, Pause, ToItem, ToNumber, WrittenBound, WrittenLoop}
+use Rattle.cob_move_loops.specs.Passages.{ABranch, AChoice, ALoop, AreBoundWords, IsHead, IsPassage, Moves, NoMore, Passage, Pause, ToItem, ToNumber, WrittenBound, WrittenLoop}
 use Rattle.cob_move_loops.specs.Turns.{Counted, counter_at, in_turn, turns_between}
 use Rattle.cob_move_names.specs.Candidates.{Candidate}
 use Rattle.cob_move_names.specs.References.{NamesOperand}
@@ -22,12 +22,12 @@ use Rattle.cob_move.specs.Deeds.{AreDeeds, ComeFirst, ComeFirstInLoop, IsBoundOf
 use Rattle.cob_move.specs.DeedsLaws.{OneDeeds}
 use Rattle.cob_move.specs.DeedsRead.{deep}
 use Rattle.cob_move.specs.Joined.{before_deeds, joined_deeds}
-use Rattle.cob_move.specs.Paragraphs.{has_choice}
+use Rattle.cob_move.specs.Paragraphs.{HasPlainBound, HaveNoColon, IsPlainPassage, has_choice}
 use Rattle.cob_move.proofs.DeedsLemmas.{counted_same, either_side, mul_within}
 use Rattle.cob_move.proofs.LoopLemmas.{neither}
 use Rattle.cob_move.proofs.MixedMeaning.{mixed_named, mixed_run}
 use Rattle.cob_move.proofs.MixedStatements.{mixed_reference}
-use Rattle.cob_move.proofs.MixedWords.{AreMixed, AreMixedTurns, mixed_back, mixed_deeper, mixed_in_turn, mixed_self}
+use Rattle.cob_move.proofs.MixedWords.{AreMixed, AreMixedTurns, colons_apart, colons_in_turn, mixed_back, mixed_deeper, mixed_in_turn, mixed_self}
 
 -- ---- one choice for each turn
 
@@ -60,9 +60,9 @@ MixesTurns first second third = (i j : ℕ) (d e : Deeds Test) (m n : ℕ) → f
 abbrev bounded_by : Past → Operand → Past
 bounded_by s o = record { number = s.number; most = s.most; side = s.side; bound = o }
 
-mixed_bound : OneReference → (all : List Candidate) (us vs ws : List Lexeme) (t s : Past) → AreMixed us vs ws → IsBoundOf all us t → IsBoundOf all vs s → (o : Operand) × IsBoundOf all ws (bounded_by s o)
-mixed_bound one all us vs ws t s m first second =
-    let (r, q, is, si, mixed) = mixed_reference second.reference vs us ws second.spelled m in
+mixed_bound : OneReference → (all : List Candidate) (us vs ws : List Lexeme) (t s : Past) → AreMixed us vs ws → HaveNoColon vs → IsBoundOf all us t → IsBoundOf all vs s → (o : Operand) × IsBoundOf all ws (bounded_by s o)
+mixed_bound one all us vs ws t s m plain first second =
+    let (r, q, is, si, mixed) = mixed_reference second.reference vs us ws second.spelled m plain in
     let same : r ≡ first.reference = one us r first.reference is first.spelled in
     let third = mixed_named all r second.reference q t.side s.side t.bound s.bound mixed
     (subst (λ (x : WrittenReference). NamesOperand all x t.side t.bound) (sym same) first.named) second.named in
@@ -70,14 +70,14 @@ mixed_bound one all us vs ws t s m first second =
     (third.operand, record { reference = q; spelled = si; named = third.named; item = (i, subst (λ (k : Kind). IsBoundItem k i) (sym third.kind) item) })
 
 mixed_loop : OneReference → (all : List Candidate) (ks bs es : List Counted) (l : WrittenLoop) (b : WrittenBound) (first second third : ℕ → Deeds Test → ℕ → Type 0)
-    → AreMixedTurns ks bs es → MixesTurns first second third → MixesTurns second third second → (f g : ℕ → Deeds Test) (count other : ℕ → ℕ) (own nwo : Deeds Test) (m n : ℕ)
+    → AreMixedTurns ks bs es → HasPlainBound b → MixesTurns first second third → MixesTurns second third second → (f g : ℕ → Deeds Test) (count other : ℕ → ℕ) (own nwo : Deeds Test) (m n : ℕ)
     → IsLoopOf all ks l b first f count own m → IsLoopOf all bs l b second g other nwo n → (h : ℕ → Deeds Test) × (o : Deeds Test) × IsLoopOf all es l b third h other o n
-mixed_loop one all ks bs es l (ToNumber bound) first second third mixed forth back f g count other own nwo m n (are, own_is, m_is) (era, nwo_is, n_is) =
+mixed_loop one all ks bs es l (ToNumber bound) first second third mixed plain forth back f g count other own nwo m n (are, own_is, m_is) (era, nwo_is, n_is) =
     let (h, thirds) = chosen (λ i d. third i d (other i)) l.by (turns_between l.from l.by bound) l.from (λ k less.
     forth (l.from + k * l.by) (l.from + k * l.by) (f (l.from + k * l.by)) (g (l.from + k * l.by)) (count (l.from + k * l.by)) (other (l.from + k * l.by)) (are k less) (era k less)) in
     (h, deeds_of_turns h l.by (turns_between l.from l.by bound) l.from, (thirds, refl, n_is))
-mixed_loop one all ks bs es l (ToItem ws) first second third mixed forth back f g count other own nwo m n (t, is, low, far, are, end, own_is, m_is) (s, si, wol, raf, era, dne, nwo_is, n_is) =
-    let (o, bound) = mixed_bound one all (in_turn ks false 0 ws) (in_turn bs false 0 ws) (in_turn es false 0 ws) t s (mixed_in_turn ks bs es false 0 ws mixed) is si in
+mixed_loop one all ks bs es l (ToItem ws) first second third mixed plain forth back f g count other own nwo m n (t, is, low, far, are, end, own_is, m_is) (s, si, wol, raf, era, dne, nwo_is, n_is) =
+    let (o, bound) = mixed_bound one all (in_turn ks false 0 ws) (in_turn bs false 0 ws) (in_turn es false 0 ws) t s (mixed_in_turn ks bs es false 0 ws mixed) (colons_in_turn bs false 0 ws plain) is si in
     let (h, thirds) = chosen (λ i d. third i d (other i)) 1 (s.most + 1 - l.from) l.from (λ k less.
     forth l.from (l.from + k * 1) (f l.from) (g (l.from + k * 1)) (count l.from) (other (l.from + k * 1)) (are l.from (omega arith) low) (era (l.from + k * 1) (omega arith) (omega (arith, less)))) in (
       h,
@@ -95,10 +95,10 @@ mixed_loop one all ks bs es l (ToItem ws) first second third mixed forth back f 
     )
 
 first_loop : OneReference → (all : List Candidate) (ks bs es : List Counted) (l : WrittenLoop) (b : WrittenBound) (first second third : ℕ → Deeds Test → ℕ → Type 0) (part trap : ℕ → ℕ → Type 0)
-    → AreMixedTurns ks bs es → MixesTurns first second third → ((i j : ℕ) (d : Deeds Test) (m own : ℕ) → first i d m → part j own → trap j own)
+    → AreMixedTurns ks bs es → HasPlainBound b → MixesTurns first second third → ((i j : ℕ) (d : Deeds Test) (m own : ℕ) → first i d m → part j own → trap j own)
     → (f : ℕ → Deeds Test) (count : ℕ → ℕ) (own : Deeds Test) (m many : ℕ) → IsLoopOf all ks l b first f count own m
     → ComeFirstInLoop all bs l b (λ i c. (d : Deeds Test) × second i d c) part many → ComeFirstInLoop all es l b (λ i c. (d : Deeds Test) × third i d c) trap many
-first_loop one all ks bs es l (ToNumber n) first second third part trap mixed forth parts f count own m many (are, own_is, m_is) (k, o, counted, less, whole, is, cut) = (
+first_loop one all ks bs es l (ToNumber n) first second third part trap mixed plain forth parts f count own m many (are, own_is, m_is) (k, o, counted, less, whole, is, cut) = (
   k,
   o,
   counted,
@@ -108,8 +108,8 @@ first_loop one all ks bs es l (ToNumber n) first second third part trap mixed fo
   parts (l.from + k * l.by) (l.from + k * l.by) (f (l.from + k * l.by)) (count (l.from + k * l.by)) o (are k less) is,
   cut,
 )
-first_loop one all ks bs es l (ToItem ws) first second third part trap mixed forth parts f count own m many (t, is, low, far, are, end, own_is, m_is) (s, i, o, counted, si, wol, raf, whole, at, cut) =
-    let (x, bound) = mixed_bound one all (in_turn ks false 0 ws) (in_turn bs false 0 ws) (in_turn es false 0 ws) t s (mixed_in_turn ks bs es false 0 ws mixed) is si in
+first_loop one all ks bs es l (ToItem ws) first second third part trap mixed plain forth parts f count own m many (t, is, low, far, are, end, own_is, m_is) (s, i, o, counted, si, wol, raf, whole, at, cut) =
+    let (x, bound) = mixed_bound one all (in_turn ks false 0 ws) (in_turn bs false 0 ws) (in_turn es false 0 ws) t s (mixed_in_turn ks bs es false 0 ws mixed) (colons_in_turn bs false 0 ws plain) is si in
     let begin = are l.from (omega arith) low in (
       bounded_by s x,
       i,
@@ -125,70 +125,83 @@ first_loop one all ks bs es l (ToItem ws) first second third part trap mixed for
 
 -- ---- passages
 
--- no choice stands in a passage: of one with a choice nothing is said here, and its turns are read at once
-abbrev pub HasNoChoice : Passage → Type 0
-HasNoChoice NoMore = Unit {0}
-HasNoChoice (Moves own more) = HasNoChoice more
-HasNoChoice (Pause more) = HasNoChoice more
-HasNoChoice (ALoop l body more) = HasNoChoice body × HasNoChoice more
-HasNoChoice (AChoice c branches more) = ⊥
-HasNoChoice (ABranch t own others) = ⊥
+plain_bound : (b : WrittenBound) (ws : List Lexeme) → AreBoundWords b ws → HaveNoColon ws → HasPlainBound b
+plain_bound (ToNumber n) ws is none = tt
+plain_bound (ToItem own) ws (are, same) none = subst HaveNoColon same none
 
-pub plain_so : (p : Passage) → has_choice p ≡ false → HasNoChoice p
-plain_so NoMore none = tt
-plain_so (Moves own more) none = plain_so more none
-plain_so (Pause more) none = plain_so more none
-plain_so (ALoop l body more) none = let both = neither (has_choice body) (has_choice more) none in (plain_so body both.0, plain_so more both.1)
-plain_so (AChoice c branches more) none = absurd (let never : true ≡ false = none in cc)
-plain_so (ABranch t own others) none = absurd (let never : true ≡ false = none in cc)
+plain_head : (l : WrittenLoop) (ws : List Lexeme) → IsHead l ws → HaveNoColon ws → HasPlainBound l.bound
+plain_head l ws (varying, stepping, until, varies, steps, (word, counter, past, own, is, counts, signs, bound, words), cut) none =
+    let (first, rest) = colons_apart varying (stepping ++ until) (subst HaveNoColon cut none) in
+    let (second, last) = colons_apart stepping until rest in
+    let all = subst HaveNoColon words last in
+    let (before, there) = colons_apart past own all.1.1 in
+    plain_bound l.bound own bound there
+
+pub plain_so : (p : Passage) (ws : List Lexeme) → IsPassage p ws → HaveNoColon ws → has_choice p ≡ false → IsPlainPassage p
+plain_so NoMore ws is none plain = tt
+plain_so (Moves own more) ws (rest, run, first, cut, is) none plain =
+    let (here, there) = colons_apart own rest (subst HaveNoColon cut none) in
+    (plain_so more rest is there plain, here)
+plain_so (Pause more) ws (pause, stops, rest, word, periods, cut, is) none plain =
+    let all = subst HaveNoColon cut none in
+    let (here, there) = colons_apart stops rest all.1 in
+    plain_so more rest is there plain
+plain_so (ALoop l body more) ws (head, own, stops, rest, end, begins, inner, is, word, periods, cut, si) none plain =
+    let both = neither (has_choice body) (has_choice more) plain in
+    let (first, last) = colons_apart head (own ++ end ∷ (stops ++ rest)) (subst HaveNoColon cut none) in
+    let (here, behind) = colons_apart own (end ∷ (stops ++ rest)) last in
+    let (still, there) = colons_apart stops rest behind.1 in
+    (plain_so body own is here both.0, plain_so more rest si there both.1, plain_head l head begins first)
+plain_so (AChoice c branches more) ws is none plain = absurd (let never : true ≡ false = plain in cc)
+plain_so (ABranch t own others) ws is none plain = absurd (let never : true ≡ false = plain in cc)
 
 -- what comes to something in the first two turns does so in the third, with as many statements as in the second
-pub mixed_deeds : (values : List (Bearer ValuedEntry)) → OneListOfEnded → OneReference → (input output : Forest Resolved) (all : List Candidate) (ks bs es : List Counted) (p : Passage) → HasNoChoice p → (d e : Deeds Test) (m n : ℕ) → AreMixedTurns ks bs es
+pub mixed_deeds : (values : List (Bearer ValuedEntry)) → OneListOfEnded → OneReference → (input output : Forest Resolved) (all : List Candidate) (ks bs es : List Counted) (p : Passage) → IsPlainPassage p → (d e : Deeds Test) (m n : ℕ) → AreMixedTurns ks bs es
     → AreDeeds values all input output ks p d m → AreDeeds values all input output bs p e n → (f : Deeds Test) × AreDeeds values all input output es p f n
 mixed_deeds values ended one input output all ks bs es NoMore plain d e m n mixed (d_is, m_is) (e_is, n_is) = (Nothing, (refl, n_is))
 mixed_deeds values ended one input output all ks bs es (Moves own more) plain d e m n mixed (ms, next, count, rest, run, are, d_is, m_is) (sm, txen, tnuoc, tser, nur, era, e_is, n_is) =
-    let (os, third) = mixed_run ended input output (in_turn ks false 0 own) (in_turn bs false 0 own) (in_turn es false 0 own) ms sm count tnuoc (mixed_in_turn ks bs es false 0 own mixed) run nur in
-    let (others, thirds) = mixed_deeds values ended one input output all ks bs es more plain next txen rest tser mixed are era in
+    let (os, third) = mixed_run ended input output (in_turn ks false 0 own) (in_turn bs false 0 own) (in_turn es false 0 own) ms sm count tnuoc (mixed_in_turn ks bs es false 0 own mixed) (colons_in_turn bs false 0 own plain.1) run nur in
+    let (others, thirds) = mixed_deeds values ended one input output all ks bs es more plain.0 next txen rest tser mixed are era in
     (before_deeds os others, (os, others, tnuoc, tser, third, thirds, refl, n_is))
 mixed_deeds values ended one input output all ks bs es (Pause more) plain d e m n mixed are era = mixed_deeds values ended one input output all ks bs es more plain d e m n mixed are era
 mixed_deeds values ended one input output all ks bs es (ALoop l body more) plain d e m n mixed (f, count, own, next, turned, rest, loop, are, d_is, m_is) (g, other, nwo, txen, denrut, tser, pool, era, e_is, n_is) =
     let (h, o, third) = mixed_loop one all ks bs es l l.bound (λ i x c. AreDeeds values all input output (ks ++ counter_at l i ∷ []) body x c)
-    (λ i x c. AreDeeds values all input output (bs ++ counter_at l i ∷ []) body x c) (λ i x c. AreDeeds values all input output (es ++ counter_at l i ∷ []) body x c) mixed
+    (λ i x c. AreDeeds values all input output (bs ++ counter_at l i ∷ []) body x c) (λ i x c. AreDeeds values all input output (es ++ counter_at l i ∷ []) body x c) mixed plain.1.1
     (λ i j x y a b first second. mixed_deeds values ended one input output all (ks ++ counter_at l i ∷ []) (bs ++ counter_at l j ∷ []) (es ++ counter_at l j ∷ []) body plain.0 x y a b
     (mixed_deeper ks bs es l.counter i j j mixed (inr refl)) first second)
     (λ i j x y a b first second. mixed_deeds values ended one input output all (bs ++ counter_at l i ∷ []) (es ++ counter_at l j ∷ []) (bs ++ counter_at l j ∷ []) body plain.0 x y a b
     (mixed_deeper bs es bs l.counter i j j (mixed_back ks bs es mixed) (inr refl)) first second) f g count other own nwo turned denrut loop pool in
-    let (others, thirds) = mixed_deeds values ended one input output all ks bs es more plain.1 next txen rest tser mixed are era in
+    let (others, thirds) = mixed_deeds values ended one input output all ks bs es more plain.1.0 next txen rest tser mixed are era in
     (joined_deeds o others, (h, other, o, others, denrut, tser, third, thirds, refl, n_is))
 mixed_deeds values ended one input output all ks bs es (AChoice c branches more) plain d e m n mixed are era = absurd plain
 mixed_deeds values ended one input output all ks bs es (ABranch t own others) plain d e m n mixed are era = absurd plain
 
 -- what comes first in the second turn comes first in the third, where the first comes to something
-pub mixed_first : (values : List (Bearer ValuedEntry)) → OneListOfEnded → OneReference → (input output : Forest Resolved) (all : List Candidate) (ks bs es : List Counted) (p : Passage) → HasNoChoice p → (d : Deeds Test) (m many : ℕ) → AreMixedTurns ks bs es
+pub mixed_first : (values : List (Bearer ValuedEntry)) → OneListOfEnded → OneReference → (input output : Forest Resolved) (all : List Candidate) (ks bs es : List Counted) (p : Passage) → IsPlainPassage p → (d : Deeds Test) (m many : ℕ) → AreMixedTurns ks bs es
     → AreDeeds values all input output ks p d m → ComeFirst values all input output bs p many → ComeFirst values all input output es p many
 mixed_first values ended one input output all ks bs es NoMore plain d m many mixed are first = first
 mixed_first values ended one input output all ks bs es (Moves own more) plain d m many mixed (ms, next, count, rest, run, are, d_is, m_is) (inl none) = inl none
 mixed_first values ended one input output all ks bs es (Moves own more) plain d m many mixed (ms, next, count, rest, run, are, d_is, m_is) (inr (sm, tnuoc, tser, nur, first, cut)) =
-    let (os, third) = mixed_run ended input output (in_turn ks false 0 own) (in_turn bs false 0 own) (in_turn es false 0 own) ms sm count tnuoc (mixed_in_turn ks bs es false 0 own mixed) run nur in
-    inr (os, tnuoc, tser, third, mixed_first values ended one input output all ks bs es more plain next rest tser mixed are first, cut)
+    let (os, third) = mixed_run ended input output (in_turn ks false 0 own) (in_turn bs false 0 own) (in_turn es false 0 own) ms sm count tnuoc (mixed_in_turn ks bs es false 0 own mixed) (colons_in_turn bs false 0 own plain.1) run nur in
+    inr (os, tnuoc, tser, third, mixed_first values ended one input output all ks bs es more plain.0 next rest tser mixed are first, cut)
 mixed_first values ended one input output all ks bs es (Pause more) plain d m many mixed are first = mixed_first values ended one input output all ks bs es more plain d m many mixed are first
 mixed_first values ended one input output all ks bs es (ALoop l body more) plain d m many mixed (f, count, own, next, turned, rest, loop, are, d_is, m_is) (inl none) = inl none
 mixed_first values ended one input output all ks bs es (ALoop l body more) plain d m many mixed (f, count, own, next, turned, rest, loop, are, d_is, m_is) (inr (inl within)) =
     inr (inl (first_loop one all ks bs es l l.bound (λ i x c. AreDeeds values all input output (ks ++ counter_at l i ∷ []) body x c)
     (λ i x c. AreDeeds values all input output (bs ++ counter_at l i ∷ []) body x c) (λ i x c. AreDeeds values all input output (es ++ counter_at l i ∷ []) body x c)
-    (λ i c. ComeFirst values all input output (bs ++ counter_at l i ∷ []) body c) (λ i c. ComeFirst values all input output (es ++ counter_at l i ∷ []) body c) mixed
+    (λ i c. ComeFirst values all input output (bs ++ counter_at l i ∷ []) body c) (λ i c. ComeFirst values all input output (es ++ counter_at l i ∷ []) body c) mixed plain.1.1
     (λ i j x y a b is si. mixed_deeds values ended one input output all (ks ++ counter_at l i ∷ []) (bs ++ counter_at l j ∷ []) (es ++ counter_at l j ∷ []) body plain.0 x y a b
     (mixed_deeper ks bs es l.counter i j j mixed (inr refl)) is si)
     (λ i j x a o is part. mixed_first values ended one input output all (ks ++ counter_at l i ∷ []) (bs ++ counter_at l j ∷ []) (es ++ counter_at l j ∷ []) body plain.0 x a o
     (mixed_deeper ks bs es l.counter i j j mixed (inr refl)) is part) f count own turned many loop within))
 mixed_first values ended one input output all ks bs es (ALoop l body more) plain d m many mixed (f, count, own, next, turned, rest, loop, are, d_is, m_is) (inr (inr (g, other, nwo, denrut, tser, pool, first, cut))) =
     let (h, o, third) = mixed_loop one all ks bs es l l.bound (λ i x c. AreDeeds values all input output (ks ++ counter_at l i ∷ []) body x c)
-    (λ i x c. AreDeeds values all input output (bs ++ counter_at l i ∷ []) body x c) (λ i x c. AreDeeds values all input output (es ++ counter_at l i ∷ []) body x c) mixed
+    (λ i x c. AreDeeds values all input output (bs ++ counter_at l i ∷ []) body x c) (λ i x c. AreDeeds values all input output (es ++ counter_at l i ∷ []) body x c) mixed plain.1.1
     (λ i j x y a b is si. mixed_deeds values ended one input output all (ks ++ counter_at l i ∷ []) (bs ++ counter_at l j ∷ []) (es ++ counter_at l j ∷ []) body plain.0 x y a b
     (mixed_deeper ks bs es l.counter i j j mixed (inr refl)) is si)
     (λ i j x y a b is si. mixed_deeds values ended one input output all (bs ++ counter_at l i ∷ []) (es ++ counter_at l j ∷ []) (bs ++ counter_at l j ∷ []) body plain.0 x y a b
     (mixed_deeper bs es bs l.counter i j j (mixed_back ks bs es mixed) (inr refl)) is si) f g count other own nwo turned denrut loop pool in
-    inr (inr (h, other, o, denrut, tser, third, mixed_first values ended one input output all ks bs es more plain.1 next rest tser mixed are first, cut))
+    inr (inr (h, other, o, denrut, tser, third, mixed_first values ended one input output all ks bs es more plain.1.0 next rest tser mixed are first, cut))
 mixed_first values ended one input output all ks bs es (AChoice c branches more) plain d m many mixed are first = absurd plain
 mixed_first values ended one input output all ks bs es (ABranch t own others) plain d m many mixed are first = absurd plain
 
@@ -262,13 +275,13 @@ loop_within all ns l (ToItem ws) meant part q one within early f count own m man
     ]
 
 -- what comes first in a passage that comes to something is no more than its statements, once for each loop that holds others
-pub first_within : (values : List (Bearer ValuedEntry)) → OneDeeds → OneListOfEnded → OneReference → (input output : Forest Resolved) (all : List Candidate) (ns : List Counted) (p : Passage) → HasNoChoice p → (d : Deeds Test) (m many q : ℕ) → deep p ≤ q
+pub first_within : (values : List (Bearer ValuedEntry)) → OneDeeds → OneListOfEnded → OneReference → (input output : Forest Resolved) (all : List Candidate) (ns : List Counted) (p : Passage) → IsPlainPassage p → (d : Deeds Test) (m many q : ℕ) → deep p ≤ q
     → AreDeeds values all input output ns p d m → ComeFirst values all input output ns p many → many ≤ m * suc q
 first_within values law ended one input output all ns NoMore plain d m many q low are first = omega (arith, first)
 first_within values law ended one input output all ns (Moves own more) plain d m many q low (ms, next, count, rest, run, are, d_is, m_is) (inl none) = omega (arith, none)
 first_within values law ended one input output all ns (Moves own more) plain d m many q low (ms, next, count, rest, run, are, d_is, m_is) (inr (sm, tnuoc, tser, nur, first, cut)) =
     let same : tnuoc ≡ count = (run_same ended (in_turn ns false 0 own) sm ms tnuoc count nur run) in
-    behind_within many m tser count rest q (first_within values law ended one input output all ns more plain next rest tser q low are first) (omega (arith, cut, same)) m_is
+    behind_within many m tser count rest q (first_within values law ended one input output all ns more plain.0 next rest tser q low are first) (omega (arith, cut, same)) m_is
   where
     run_same : OneListOfEnded → (ws : List Lexeme) (a b : List Move) (c e : ℕ) → IsRunMeant input output ws a c → IsRunMeant input output ws b e → c ≡ e
     run_same ended ws a b c e x y = x.many ∙ ap length (ended ws x.statements y.statements x.spelled y.spelled) ∙ sym y.many
@@ -285,12 +298,12 @@ first_within values law ended one input output all ns (ALoop l body more) plain 
 first_within values law ended one input output all ns (ALoop l body more) plain d m many (suc q) low (f, count, own, next, turned, rest, loop, are, d_is, m_is) (inr (inr (g, other, nwo, denrut, tser, pool, first, cut))) =
     let same : denrut + 0 ≡ turned + 0 = (law values all input output ns (ALoop l body NoMore) (joined_deeds nwo Nothing) (joined_deeds own Nothing) (denrut + 0) (turned + 0)
     (g, other, nwo, Nothing, denrut, 0, pool, (refl, refl), refl, refl) (f, count, own, Nothing, turned, 0, loop, (refl, refl), refl, refl)).1 in
-    behind_within many m tser turned rest (suc q) (first_within values law ended one input output all ns more plain.1 next rest tser (suc q) (omega (arith, low, le-max_right (deep body + 1) (deep more))) are first) (omega (arith, cut, same)) m_is
+    behind_within many m tser turned rest (suc q) (first_within values law ended one input output all ns more plain.1.0 next rest tser (suc q) (omega (arith, low, le-max_right (deep body + 1) (deep more))) are first) (omega (arith, cut, same)) m_is
 first_within values law ended one input output all ns (AChoice c branches more) plain d m many q low are first = absurd plain
 first_within values law ended one input output all ns (ABranch t own others) plain d m many q low are first = absurd plain
 
 -- What comes first in a turn behind one that comes to something: so few statements, that with those so far they are few.
-pub late_within : (values : List (Bearer ValuedEntry)) → OneDeeds → OneListOfEnded → OneReference → (input output : Forest Resolved) (all : List Candidate) (ns : List Counted) (l : WrittenLoop) (p : Passage) (i j : ℕ) (d : Deeds Test) (m many q : ℕ) → HasNoChoice p → deep p ≤ q
+pub late_within : (values : List (Bearer ValuedEntry)) → OneDeeds → OneListOfEnded → OneReference → (input output : Forest Resolved) (all : List Candidate) (ns : List Counted) (l : WrittenLoop) (p : Passage) (i j : ℕ) (d : Deeds Test) (m many q : ℕ) → IsPlainPassage p → deep p ≤ q
     → AreDeeds values all input output (ns ++ counter_at l i ∷ []) p d m → ComeFirst values all input output (ns ++ counter_at l j ∷ []) p many → many ≤ m * suc q
 late_within values law ended one input output all ns l p i j d m many q plain low are first =
     first_within values law ended one input output all (ns ++ counter_at l i ∷ []) p plain d m many q low are

@@ -13,6 +13,8 @@ use Rattle.cob_copybook_entry.specs.Kinds.{KeptWord, meaning_by, usage_word, usa
 use Rattle.cob_copybook_clauses.specs.declared.term.WordClass.{WordClass}
 use Rattle.cob_copybook_clauses.specs.declared.term.WordClass.TheVariants as term
 use Rattle.cob_copybook_clauses.specs.Terms.{Keyword, reserved_words, term_by, term_of_usage, term_of_word, word_class}
+use Rattle.cob_move_statements.specs.Statements.{IsColon}
+use Rattle.cob_move.specs.Paragraphs.{HaveNoColon}
 use Rattle.cob_move_loops.specs.Turns.{Counted, amount_of_kind, counted_number, counted_of_kind, in_turn, number_of_name, numeral, open_by, passed_by, passed_by_sum, shifted_by, shifted_of_kind, sum_in, word_by, word_by_sum}
 
 -- ---- numbers as words
@@ -246,3 +248,31 @@ mixed_back (c ∷ cs) (d ∷ ds) (e ∷ es) (first, third, number, rest) = (sym 
 pub mixed_self : (cs : List Counted) → AreMixedTurns cs cs cs
 mixed_self [] = tt
 mixed_self (c ∷ cs) = (refl, refl, inl refl, mixed_self cs)
+
+-- ---- colons
+
+number_no_colon : (w : Lexeme) → IsNumberWord w → IsColon w → ⊥
+number_no_colon w n colon = let digits = subst AreDigits colon.same n.digits in absurd (omega (arith, digits.0.1))
+
+sum_no_colon : (w : Lexeme) (x : ℕ) (s : Option ℕ) → IsColon (word_by_sum w x s) → ⊥
+sum_no_colon w x None colon = number_no_colon (numeral w x) (numeral_number w x) colon
+sum_no_colon w x (Some s) colon = number_no_colon (numeral w s) (numeral_number w s) colon
+
+word_no_colon : (inside : Bool) (w : Lexeme) (more : List Lexeme) (o : Option ℕ) → (IsColon w → ⊥) → IsColon (word_by inside w more o) → ⊥
+word_no_colon inside w more None none = none
+word_no_colon inside w more (Some x) none = sum_no_colon w x (sum_in inside x more)
+
+-- no turn brings a colon
+pub colons_in_turn : (ns : List Counted) (inside : Bool) (passed : ℕ) (ws : List Lexeme) → HaveNoColon ws → HaveNoColon (in_turn ns inside passed ws)
+colons_in_turn ns inside zero [] none = tt
+colons_in_turn ns inside (suc passed) [] none = tt
+colons_in_turn ns inside (suc passed) (w ∷ ws) none = colons_in_turn ns inside passed ws none.1
+colons_in_turn ns inside zero (w ∷ ws) none = (
+  word_no_colon inside w ws (counted_number ns w) none.0,
+  colons_in_turn ns (open_by inside (word_class w)) (passed_by inside ws (counted_number ns w)) ws none.1,
+)
+
+-- words one behind another have none
+pub colons_apart : (own rest : List Lexeme) → HaveNoColon (own ++ rest) → HaveNoColon own × HaveNoColon rest
+colons_apart [] rest none = (tt, none)
+colons_apart (w ∷ own) rest none = let (here, there) = colons_apart own rest none.1 in ((none.0, here), there)

@@ -153,6 +153,7 @@ no_rule one law all input output a ms rule.Grammar h b = absurd (no_word all inp
 no_rule one law all input output a ms rule.Unknown h b = absurd (no_reference law rule.Unknown all input output a ms h b)
 no_rule one law all input output a ms rule.Ambiguous h b = absurd (no_reference law rule.Ambiguous all input output a ms h b)
 no_rule one law all input output a ms rule.Subscripts h b = absurd (no_reference law rule.Subscripts all input output a ms h b)
+no_rule one law all input output a ms rule.Part h b = absurd (no_reference law rule.Part all input output a ms h b)
 no_rule one law all input output a ms rule.Receiver h b = absurd (no_receiver one all input output a ms h b)
 no_rule one law all input output a ms rule.NotAllowed h b = absurd (no_single one rule.NotAllowed all input output a ms h b)
 no_rule one law all input output a ms rule.Literal h (inl b) = absurd (no_literal all input output a ms h b)

@@ -171,6 +171,7 @@ text_unbroken rule.Grammar line text input output names d p broken = absurd brok
 text_unbroken rule.Unknown line text input output names d p broken = absurd broken
 text_unbroken rule.Ambiguous line text input output names d p broken = absurd broken
 text_unbroken rule.Subscripts line text input output names d p broken = absurd broken
+text_unbroken rule.Part line text input output names d p broken = absurd broken
 text_unbroken rule.Receiver line text input output names d p broken = absurd broken
 text_unbroken rule.NotAllowed line text input output names d p broken = absurd broken
 text_unbroken rule.Literal line text input output names d p broken = absurd broken

@@ -117,6 +117,7 @@ run_unbroken one unbroken f (rule.Source s) line all input output ws own ms same
 run_unbroken one unbroken f rule.Unknown line all input output ws own ms same is broken = absurd broken
 run_unbroken one unbroken f rule.Ambiguous line all input output ws own ms same is broken = absurd broken
 run_unbroken one unbroken f rule.Subscripts line all input output ws own ms same is broken = absurd broken
+run_unbroken one unbroken f rule.Part line all input output ws own ms same is broken = absurd broken
 run_unbroken one unbroken f rule.Receiver line all input output ws own ms same is broken = absurd broken
 run_unbroken one unbroken f rule.NotAllowed line all input output ws own ms same is broken = absurd broken
 run_unbroken one unbroken f rule.Literal line all input output ws own ms same is broken = absurd broken
@@ -181,6 +182,7 @@ passage_unbroken one none (rule.Source s) line all words body p h counters same 
 passage_unbroken one none rule.Unknown line all words body p h counters same refused = absurd refused
 passage_unbroken one none rule.Ambiguous line all words body p h counters same refused = absurd refused
 passage_unbroken one none rule.Subscripts line all words body p h counters same refused = absurd refused
+passage_unbroken one none rule.Part line all words body p h counters same refused = absurd refused
 passage_unbroken one none rule.Receiver line all words body p h counters same refused = absurd refused
 passage_unbroken one none rule.NotAllowed line all words body p h counters same refused = absurd refused
 passage_unbroken one none rule.Literal line all words body p h counters same refused = absurd refused

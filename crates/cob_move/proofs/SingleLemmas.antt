@@ -25,6 +25,7 @@ reference_fault : (r : MoveRule) (all : List Candidate) (w : WrittenReference) (
 reference_fault rule.Unknown all w ws input output h = inl h
 reference_fault rule.Ambiguous all w ws input output h = inl h
 reference_fault rule.Subscripts all w ws input output h = inl h
+reference_fault rule.Part all w ws input output h = inl h
 reference_fault r all w ws input output h = absurd h
 
 constant_fault : (r : MoveRule) (all : List Candidate) (c : WrittenValue) (ws : List WrittenReference) (input output : Forest Resolved)
@@ -48,6 +49,7 @@ receipt_fault : (r : MoveRule) (all : List Candidate) (s : WrittenSender) (m : S
 receipt_fault rule.Unknown all s m ws input output is h = reference_part rule.Unknown all s m ws (λ w b. left (λ q. q.2) b) h
 receipt_fault rule.Ambiguous all s m ws input output is h = reference_part rule.Ambiguous all s m ws (λ w b. left (λ q. q.2) b) h
 receipt_fault rule.Subscripts all s m ws input output is h = reference_part rule.Subscripts all s m ws (λ w b. left (λ q. q.2) b) h
+receipt_fault rule.Part all s m ws input output is h = reference_part rule.Part all s m ws (λ w b. left (λ q. q.2) b) h
 receipt_fault rule.Receiver all s m ws input output is h =
     some_map (BreaksReceipt rule.Receiver all m) (BreaksReceiver rule.Receiver all) (λ w b. left (λ q. q.2) b) ws h
 receipt_fault rule.NotAllowed all s m ws input output is h =

@@ -155,12 +155,13 @@ IsFewRead values all input output p = (many : ℕ) → ComeFirst values all inpu
 -- ---- what refuses a passage in a turn
 
 -- The words of a bound break the rule: they are no reference (M1), it names no entry, or several, or its subscripts aren't those of the entry's tables (M2, M3,
--- M4), or the entry is no whole number (M11).
+-- M4), or the entry hasn't the part that is meant (M15), or what is named is no whole number (M11).
 abbrev pub IsBoundRefusal : MoveRule → List Candidate → List Lexeme → Type 0
 IsBoundRefusal rule.Grammar all ws = (w : WrittenReference) → IsReference w ws → ⊥
 IsBoundRefusal rule.Unknown all ws = (w : WrittenReference) × IsReference w ws × BreaksReference rule.Unknown all w
 IsBoundRefusal rule.Ambiguous all ws = (w : WrittenReference) × IsReference w ws × BreaksReference rule.Ambiguous all w
 IsBoundRefusal rule.Subscripts all ws = (w : WrittenReference) × IsReference w ws × BreaksReference rule.Subscripts all w
+IsBoundRefusal rule.Part all ws = (w : WrittenReference) × IsReference w ws × BreaksReference rule.Part all w
 IsBoundRefusal rule.Counter all ws = (w : WrittenReference) × (side : Side) × (o : Operand)
     × IsReference w ws × NamesOperand all w side o × ((i : Item) → IsBoundItem o.kind i → ⊥)
 IsBoundRefusal other all ws = ⊥

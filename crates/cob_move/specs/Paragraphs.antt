@@ -1,4 +1,5 @@
 -- What the text of a paragraph does between two records, and which rules it breaks.
+use Rattle.std.specs.List.{AllByRecursion}
 use Rattle.std.specs.Prelude.{◌≡◌, ◌⊎◌, ℕ, ◌+◌, ◌<◌, ◌≤◌, ◌||◌, Bool, true, false, List, [], length}
 use Rattle.cob_limits.specs.Limits.{most_written_out}
 use Rattle.cob_source.specs.Tokens.{Lexeme}
@@ -16,7 +17,7 @@ use Rattle.cob_move_statements.specs.declared.fault.MoveFault.{MoveFault}
 use Rattle.cob_move_statements.specs.declared.fault.MoveRule.{MoveRule}
 use Rattle.cob_move_statements.specs.declared.fault.MoveRule.TheVariants as rule
 use Rattle.cob_move_statements.specs.Written.{WrittenStatement}
-use Rattle.cob_move_statements.specs.Statements.{IsParagraph}
+use Rattle.cob_move_statements.specs.Statements.{IsColon, IsParagraph}
 use Rattle.cob_move_data.specs.Moves.{Move, Records}
 use Rattle.cob_move_apply.specs.Marked.{ends_of_marks, marked_steps}
 use Rattle.cob_move_deeds.specs.Deeds.{Deeds, IsStraight, Moving, Nothing}
@@ -41,6 +42,25 @@ has_choice (Pause more) = has_choice more
 has_choice (ALoop l body more) = has_choice body || has_choice more
 has_choice (AChoice c branches more) = true
 has_choice (ABranch t own others) = true
+
+-- no word is a colon: so no reference among the words has a part
+abbrev pub HaveNoColon : List Lexeme → Type 0
+HaveNoColon ws = AllByRecursion (λ w. IsColon w → ⊥) ws
+
+-- none stands in what a loop ends by
+abbrev pub HasPlainBound : WrittenBound → Type 0
+HasPlainBound (ToNumber n) = Unit {0}
+HasPlainBound (ToItem ws) = HaveNoColon ws
+
+-- No choice stands in a passage, and no item has a part: what such a passage means in a turn rests on each counter by itself. Of other passages nothing is
+-- said here, and their turns are read at once.
+abbrev pub IsPlainPassage : Passage → Type 0
+IsPlainPassage NoMore = Unit {0}
+IsPlainPassage (Moves own more) = IsPlainPassage more × HaveNoColon own
+IsPlainPassage (Pause more) = IsPlainPassage more
+IsPlainPassage (ALoop l body more) = IsPlainPassage body × IsPlainPassage more × HasPlainBound l.bound
+IsPlainPassage (AChoice c branches more) = ⊥
+IsPlainPassage (ABranch t own others) = ⊥
 
 -- each loop of a passage ends by a number, and there is no choice: so there is no test
 abbrev pub IsLiteral : Passage → Type 0

@@ -96,6 +96,7 @@ PairsTwice all input output (MoveCorresponding from to) = (g : TwoGroups) × Are
 -- A statement breaks a rule. M1: a word that it sends is no numeric literal. M2, M3, M4: one of its references names no entry, or several, or its
 -- subscripts aren't those of the entry's tables. M5: a receiver stands in the input record. M6, M7, M10: one of its single moves isn't allowed;
 -- M7 too where its literal is one that no constant is. M8: CORRESPONDING without two groups. M9: CORRESPONDING with an entry in two pairs.
+-- M15: the entry that one of its references names hasn't the part that is meant.
 -- M19: memory was refused.
 abbrev pub BreaksStatement : MoveRule → List Candidate → Forest Resolved → Forest Resolved → WrittenAction → Type 0
 BreaksStatement rule.Grammar all input output a = BreaksConstant (sent_constant a)
@@ -111,6 +112,7 @@ BreaksStatement rule.TooLong all input output a = SomeBreak rule.TooLong all inp
 BreaksStatement rule.Counter all input output a = ⊥
 BreaksStatement rule.TooMany all input output a = ⊥
 BreaksStatement rule.NotComparable all input output a = ⊥
+BreaksStatement rule.Part all input output a = SomeOf (BreaksReference rule.Part all) (references a)
 BreaksStatement rule.Memory all input output a = Unit {0}
 BreaksStatement (rule.Source s) all input output a = ⊥
 

@@ -173,7 +173,8 @@ fn bound_named(entries: &Entries<'_, '_>, words: &[Token]) -> Result<NamedEntry,
         return Err(MoveRule::Grammar);
     };
     let found = entries.named(&reference)?;
-    if !is_bound_item(entries.kind(found.side, &found.entry)) {
+    let kind = entries.kind(found.side, &found.entry);
+    if !is_bound_item(kind.get()) {
         return Err(MoveRule::Counter);
     }
     Ok(found)

@@ -1,6 +1,6 @@
 //! Turns of loops to items, looked at before they are read.
 
-ghost use Rattle.std.specs.Prelude.{◌≡◌, ◌+◌, ◌*◌, ◌<◌, ◌≤◌, false, length, IfErr, IfOk, IfSome, IsTrue};
+ghost use Rattle.std.specs.Prelude.{◌≡◌, ◌+◌, ◌*◌, ◌<◌, ◌≤◌, length, IfErr, IfOk, IfSome, IsFalse, IsTrue};
 ghost use Rattle.cob_limits.specs.Limits.{most_written_out};
 ghost use Rattle.cob_move_loops.specs.Passages.{IsPassage, Passage};
 ghost use Rattle.cob_move_loops.specs.Reading.{Within, counters, item_front, written_loop};
@@ -8,7 +8,7 @@ ghost use Rattle.cob_source.specs.Tokens.{lexemes};
 ghost use Rattle.cob_move.specs.Between.{ArePairsOf};
 ghost use Rattle.cob_move.specs.DeedsRead.{FrontStops, LoopStops, RunRefusedIn, StopsAt, WordsStop, deep, deep_front, in_its_turn, words_in_front};
 ghost use Rattle.cob_move_tests.specs.Entries.{AllMayBeNamed, records_of};
-ghost use Rattle.cob_move.specs.Paragraphs.{has_choice};
+ghost use Rattle.cob_move.specs.Paragraphs.{HaveNoColon, IsPlainPassage};
 ghost use Rattle.cob_move.specs.declared.made.NotRead.TheVariants as unread;
 
 use crate::choosing::has_choice;
@@ -17,7 +17,7 @@ use crate::made::NotRead;
 use cob_limits::MAX_WRITTEN_OUT;
 use cob_move_loops::{Counter, Loop, LoopBound, PassageItem, item_at, with_counter};
 use cob_move_names::Correspondences;
-use cob_move_statements::MoveFault;
+use cob_move_statements::{MoveFault, is_colon};
 use cob_move_tests::Entries;
 use cob_source::Token;
 use std::alloc::Global;
@@ -231,12 +231,27 @@ fn depth(words: &[Token]) -> u64
     most
 }
 
-/// How many loops of a passage without choices hold one another, at most; 0 of one with a choice.
+/// Whether a colon is among words: an item may have a part there.
+fn has_colon(words: &[Token]) -> bool
+    ensures { IsFalse result → HaveNoColon (lexemes words.now) }
+{
+    for word in words {
+        if is_colon(word) {
+            return true;
+        }
+    }
+    false
+}
+
+/// How many loops of a passage without choices and parts of items hold one another, at most; 0 of one with a choice or a colon.
 pub(crate) fn plain_depth(words: &[Token]) -> u64
     ensures { 0 < result → (p : Passage) → IsPassage p (lexemes words.now)
-        → (has_choice p ≡ false) × (deep p ≤ result) }
+        → IsPlainPassage p × (deep p ≤ result) }
 {
     if has_choice(words) {
+        return 0;
+    }
+    if has_colon(words) {
         return 0;
     }
     depth(words)

@@ -63,6 +63,7 @@ fn is_no_entry(names: &Names<'_>, name: &[u8]) -> bool
         name,
         qualifiers: &[],
         subscripts: &[],
+        part: None,
     };
     match names.find(&reference) {
         Ok(_) => false,

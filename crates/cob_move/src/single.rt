@@ -35,7 +35,7 @@ use cob_layout_places::Ref;
 use cob_move_data::{Move, Sender, Side};
 use cob_move_initial::{Refusal, SenderKind, refusal_of};
 use cob_move_statements::{MoveRule, Reference, StatementSender};
-use cob_move_tests::{Entries, kind_of_sender, sender_of};
+use cob_move_tests::{Entries, known_sender, sender_of};
 use std::alloc::Global;
 
 /// Judges the move of a sender to one receiver.
@@ -76,10 +76,9 @@ fn receiver_of(
         (written_reference reference.now)) }
 {
     let entry = entries.named_receiver(reference)?;
-    judge(
-        &kind_of_sender(entries, from),
-        entries.kind(Side::Out, &entry),
-    )?;
+    let sends = known_sender(entries, from);
+    let receives = entries.kind(Side::Out, &entry);
+    judge(&sends.get(), receives.get())?;
     Ok(entry)
 }
 

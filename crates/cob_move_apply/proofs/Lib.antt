@@ -1,3 +1,4 @@
+pub mod ItemPartLemmas
 pub mod PlaceLemmas
 pub mod ListLemmas
 pub mod BasisLemmas
@@ -32,3 +33,4 @@ pub mod WithinLemmas
 pub use Rattle.cob_layout.proofs.EntryNoRule
 pub use Rattle.cob_layout.proofs.EntryOneList
 pub mod SpareLemmas
+pub mod WholeLemmas

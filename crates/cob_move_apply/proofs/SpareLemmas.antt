@@ -20,6 +20,8 @@ use Rattle.cob_move_data.specs.declared.operands.StatementMoves.{StatementMoves}
 use Rattle.cob_move_data.specs.Moves.{AreMoves, IsMove, IsOperand, Move, Records, Sender, moves_by, operand_in, record_of}
 use Rattle.cob_move_data.specs.Singles.{PlainSingle, SingleMove, all_singles, single_between, singles_from, singles_of}
 use Rattle.cob_move_data.proofs.SingleLemmas.{of_placed}
+use Rattle.cob_move_apply.specs.Located.{part_placed}
+use Rattle.cob_move_apply.proofs.ItemPartLemmas.{part_begins, whole_of}
 use Rattle.cob_move_apply.specs.declared.marked.MarkedMoves.{MarkedMoves}
 use Rattle.cob_move_apply.specs.Applied.{AllGet, Applied, Content, Ending, Gets, IsMoved, done, stopped}
 use Rattle.cob_move_apply.specs.Marked.{AreMarkedPrepared, items_between, moves_between_marks}
@@ -69,11 +71,12 @@ begins_there o l false p h = let e : ◌≡◌ {A = Result Place PlaceFault} (Er
 begins_so : (tree : Forest Resolved) (byte : ℕ) (o : Operand) → IsOperand tree o → NoneBefore tree byte o.entry.node → BeginsFrom tree byte o
 begins_so tree byte o is none bytes p (counts, needed, stands) = by (place_of (times counts) o.entry.node tree 0 0 o.entry.subscripts.items) refl stands
   where
-    by : (found : Option Found) → place_of (times counts) o.entry.node tree 0 0 o.entry.subscripts.items ≡ found → option_map placed found ≡ Some (Ok p) → byte ≤ p.offset
+    by : (found : Option Found) → place_of (times counts) o.entry.node tree 0 0 o.entry.subscripts.items ≡ found → option_map (part_placed o.entry.part) (option_map placed found) ≡ Some (Ok p) → byte ≤ p.offset
     by None at h = absurd (cc)
     by (Some f) at h =
-        let same : placed f ≡ Ok p = cc in
-        omega (arith, none counts o.entry.subscripts.items f is.refers at, begins_there f.offset f.length f.within p same)
+        let (whole, there, cut) = whole_of o.entry.part (Some (placed f)) p h in
+        let same : placed f ≡ Ok whole = cc in
+        omega (arith, none counts o.entry.subscripts.items f is.refers at, begins_there f.offset f.length f.within whole same, part_begins o.entry.part whole, ap (λ (q : Place). q.offset) cut)
 
 of_receivers : (tree : Forest Resolved) (byte : ℕ) (s : Sender) (os : List Operand) → AllByRecursion (IsOperand tree) os
     → AllByRecursion (λ (m : SingleMove). NoneBefore tree byte m.receiver.entry.node) (singles_from s os) → AllByRecursion (BeginsFrom tree byte) os

@@ -1,7 +1,6 @@
 -- How many steps moves make: plain copies that meet on both sides are one step.
 use Rattle.std.specs.Prelude.{ℕ, ◌+◌, Bool, ◌&&◌, ◌==◌, if◌then◌else◌, List, [], ◌∷◌, length, map, Option, Some, None, Ok, Result, option_map}
 use Rattle.cob_layout.specs.Counting.{greatest_counts}
-use Rattle.cob_layout.specs.Placed.{placed_under}
 use Rattle.cob_layout.specs.declared.fields.Place.{Place}
 use Rattle.cob_layout.specs.declared.layout.PlaceFault.{PlaceFault}
 use Rattle.cob_layout_places.specs.Counts.{tables_of}
@@ -9,6 +8,7 @@ use Rattle.cob_move_data.specs.declared.operands.Side.TheVariants.{In, Out}
 use Rattle.cob_move_data.specs.declared.operands.Operand.{Operand}
 use Rattle.cob_move_data.specs.Moves.{Entry, Literal, Move, Records, Sender}
 use Rattle.cob_move_receive.specs.Copying.{copies_bytes}
+use Rattle.cob_move_apply.specs.Located.{operand_under}
 use Rattle.cob_move_apply.specs.declared.step.MovePlaces.{MovePlaces}
 
 -- neither record has a table that varies
@@ -23,7 +23,7 @@ copy_between _ _ = None
 -- The places of the copy that a single move is: it is a plain one, of an entry of the input record, and neither record has a table that varies.
 abbrev pub plain_copy : Records → Sender → Operand → Option MovePlaces
 plain_copy r (Entry In reading o) q = if neither_varies r && copies_bytes o.kind q.kind
-    then copy_between (placed_under (greatest_counts r.input) r.input o.entry) (placed_under (greatest_counts r.output) r.output q.entry)
+    then copy_between (operand_under (greatest_counts r.input) r.input o) (operand_under (greatest_counts r.output) r.output q)
     else None
 plain_copy r (Entry Out reading o) q = None
 plain_copy r (Literal c) q = None

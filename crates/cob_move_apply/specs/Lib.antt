@@ -24,3 +24,4 @@ pub mod Reads
 pub mod Entries
 pub mod Spared
 pub mod ByRule
+pub mod Whole

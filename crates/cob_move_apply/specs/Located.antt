@@ -1,15 +1,14 @@
 -- Where an operand stands in a storage, or why it doesn't.
-use Rattle.std.specs.Prelude.{◌≡◌, ◌⊎◌, ℕ, Bool, List, Some, Ok, Err, Result, option_map}
+use Rattle.std.specs.Prelude.{◌≡◌, ◌⊎◌, ℕ, ◌+◌, ◌-◌, ◌<◌, ◌≤◌, Bool, IfSome, List, Option, Some, None, Ok, Err, Result, option_map}
 use Rattle.cob_copybook_tree.specs.Forests.{Forest}
 use Rattle.cob_copybook_tree.specs.Nodes.{Resolved}
 use Rattle.cob_layout.specs.declared.fields.Place.{Place}
 use Rattle.cob_layout_places.specs.declared.counts.CountFault.{CountFault}
-use Rattle.cob_layout_places.specs.Lengths.{times}
-use Rattle.cob_layout_places.specs.Places.{place_of}
+use Rattle.cob_layout_places.specs.declared.reference.ItemPart.{ItemPart}
 use Rattle.cob_layout.specs.declared.layout.PlaceFault.{PlaceFault}
 use Rattle.cob_layout.specs.declared.finding.FindFault.{FindFault}
 use Rattle.cob_layout.specs.declared.finding.FindFault.TheVariants as finding
-use Rattle.cob_layout.specs.Placed.{placed}
+use Rattle.cob_layout.specs.Placed.{placed_under}
 use Rattle.cob_layout.specs.Counting.{NeededOf}
 use Rattle.cob_move_data.specs.declared.operands.Side.{Side}
 use Rattle.cob_move_data.specs.declared.operands.Operand.{Operand}
@@ -26,10 +25,28 @@ abbrev pub stop_of : Side → FindFault → Stop
 stop_of side (finding.Count f) = stop_at side f.offset Count
 stop_of side (finding.Subscript f) = stop_at side f.offset Subscript
 
+-- where a part of an element stands that stands there: so many of its bytes, from one on, which counts from 1; all of it stands where it does
+abbrev pub part_place : Option ItemPart → Place → Place
+part_place None whole = whole
+part_place (Some p) whole = record { offset = whole.offset + (p.start - 1); length = p.length }
+
+-- the same of an answer; an element that isn't there begins where it would by itself, whatever part of it is meant
+abbrev pub part_placed : Option ItemPart → Result Place PlaceFault → Result Place PlaceFault
+part_placed part (Ok whole) = Ok (part_place part whole)
+part_placed part (Err f) = Err f
+
+-- the answer where an operand stands under these counts: where its element does, or the part of it
+abbrev pub operand_under : List ℕ → Forest Resolved → Operand → Option (Result Place PlaceFault)
+operand_under counts tree o = option_map (part_placed o.entry.part) (placed_under counts tree o.entry)
+
 -- under these counts the operand stands there, or would begin there where its element is past its table's count
 abbrev pub StandsUnder : Forest Resolved → Operand → List ℕ → Result Place PlaceFault → Type 0
-StandsUnder tree o counts there =
-    option_map placed (place_of (times counts) o.entry.node tree 0 0 o.entry.subscripts.items) ≡ Some there
+StandsUnder tree o counts there = operand_under counts tree o ≡ Some there
+
+-- the element of an operand stands there under these counts, and has the part that is meant
+pub record StandsCut (tree : Forest Resolved) (o : Operand) (counts : List ℕ) (whole : Place) : Type 0 where
+  pub stands : placed_under counts tree o.entry ≡ Some (Ok whole)
+  pub has : IfSome o.entry.part (λ p. (0 < p.start) × (p.start + p.length ≤ whole.length + 1))
 
 -- An operand's place in a storage, sending or receiving: where it stands under the counts that it needs there. The first of these counts that
 -- isn't valid stops at the count's item; and then a subscript past its table's count stops at the place where the element would begin.

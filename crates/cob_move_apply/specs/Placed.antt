@@ -16,7 +16,7 @@ use Rattle.cob_layout_places.specs.declared.reference.Ref.{Ref}
 use Rattle.cob_move_data.specs.Moves.{IsOperand, Move, Records, Sender, Entry, Literal, operand_in, record_of, sender}
 use Rattle.cob_move_receive.specs.Sent.{sent}
 use Rattle.cob_move_apply.specs.Applied.{Content}
-use Rattle.cob_move_apply.specs.Located.{Located}
+use Rattle.cob_move_apply.specs.Located.{Located, part_place}
 use Rattle.cob_move_apply.specs.declared.receivers.Given.{Given}
 use Rattle.cob_move_apply.specs.declared.basis.Basis.{Basis}
 use Rattle.cob_move_apply.specs.declared.basis.NotedPlace.{NotedPlace}
@@ -31,13 +31,18 @@ pub record IsFixed (tree : Forest Resolved) (receiving : Bool) (o : Operand) (p 
   pub place : (side : Side) (bytes : List ℕ) → Located side tree receiving o bytes (Ok p)
   pub within : p.offset + p.length ≤ greatest_length tree
 
--- a noted place, as that of an element which is there by one count
-abbrev pub element_of : NotedPlace → ElementPlace
-element_of n = record { place = n.place; least = n.least }
+-- A noted place is that of an operand whose element is there by one count: the element stands there then, and the operand is all of it, or a part.
+pub record IsElementNoted (tree : Forest Resolved) (receiving : Bool) (o : Operand) (n : NotedPlace) : Type 0 where
+  pub element : ElementPlace
+  pub some : n.least ≡ 0 → ⊥
+  pub least : n.least ≡ element.least
+  pub stands : IsElementPlace tree o.entry receiving element
+  pub place : n.place ≡ part_place o.entry.part element.place
+  pub within : n.place.offset + n.place.length ≤ greatest_length tree
 
 -- This is the operand's place, sending or receiving: in every storage, or wherever one count says that the element is there.
 abbrev pub IsNoted : Forest Resolved → Bool → Operand → NotedPlace → Type 0
-IsNoted tree receiving o n = IsFixed tree receiving o n.place ⊎ ((n.least ≡ 0 → ⊥) × IsElementPlace tree o.entry receiving (element_of n))
+IsNoted tree receiving o n = IsFixed tree receiving o n.place ⊎ IsElementNoted tree receiving o n
 
 -- An operand's place, sending or receiving, may rest on this: on what is noted, or on the counts that it needs, by which it stands where the sums of the
 -- tables say, if a sum is noted.
@@ -45,10 +50,17 @@ abbrev pub IsBasis : Forest Resolved → Bool → Operand → Basis → Type 0
 IsBasis tree receiving o (basis.Noted n) = IsNoted tree receiving o n
 IsBasis tree receiving o (basis.Counted s) = IfSome s (IsSummedPlace tree o.entry receiving)
 
+-- the element of an operand stands somewhere in a storage, and the operand, all of it or a part, there, within the record
+pub record IsCutThere (tree : Forest Resolved) (receiving : Bool) (o : Operand) (bytes : List ℕ) (p : Place) : Type 0 where
+  pub whole : Place
+  pub found : IsFound tree o.entry receiving bytes (Ok whole)
+  pub cut : p ≡ part_place o.entry.part whole
+  pub within : p.offset + p.length ≤ greatest_length tree
+
 -- what is noted of an operand's place, and the counts that are kept of a storage, say that it is this
 abbrev pub StandsAsNoted : Forest Resolved → Bool → Operand → (bytes : List ℕ) → List (Option StoredCount) → Basis → Place → Type 0
 StandsAsNoted tree receiving o bytes ks (basis.Noted n) p = (p ≡ n.place) × HaveSoMany ks n.least
-StandsAsNoted tree receiving o bytes ks (basis.Counted s) p = IsFound tree o.entry receiving bytes (Ok p) × (p.offset + p.length ≤ greatest_length tree)
+StandsAsNoted tree receiving o bytes ks (basis.Counted s) p = IsCutThere tree receiving o bytes p
 
 -- this is a place that is noted, and the count that is kept says that the operand is there
 abbrev pub IsNotedIn : Basis → List (Option StoredCount) → Place → Type 0

@@ -7,7 +7,7 @@ use Rattle.cob_copybook_entry.specs.Described.{PlainValue, plain_value}
 use Rattle.cob_copybook_entry.specs.declared.value.Value.{Value}
 use Rattle.cob_limits.specs.Limits.{longest_record}
 use Rattle.cob_layout.specs.Counting.{ReadsNone, greatest_counts}
-use Rattle.cob_layout.specs.Placed.{placed_under}
+use Rattle.cob_move_apply.specs.Located.{operand_under}
 use Rattle.cob_layout.specs.Storage.{greatest_length}
 use Rattle.cob_move_data.specs.declared.operands.PairMoves.{PairMoves}
 use Rattle.cob_move_data.specs.declared.operands.Sender as code_sender
@@ -64,10 +64,10 @@ pub record IsPartIn (r : Records) (given : List StatementMoves) (p : StatementPa
 -- both entries, the sender of the record of a side, stand at these places in every storage of their records
 pub record AreFixedPlaces (side : Side) (r : Records) (sent receiver : Ref) (p : MovePlaces) : Type 0 where
   pub sends_by_none : ReadsNone (record_of r side) sent.node false
-  pub sends : placed_under (greatest_counts (record_of r side)) (record_of r side) sent ≡ Some (Ok p.from)
+  pub sends : operand_under (greatest_counts (record_of r side)) (record_of r side) (operand_in (record_of r side) sent) ≡ Some (Ok p.from)
   pub sends_within : p.from.offset + p.from.length ≤ greatest_length (record_of r side)
   pub receives_by_none : ReadsNone r.output receiver.node true
-  pub receives : placed_under (greatest_counts r.output) r.output receiver ≡ Some (Ok p.to)
+  pub receives : operand_under (greatest_counts r.output) r.output (operand_in r.output receiver) ≡ Some (Ok p.to)
   pub receives_within : p.to.offset + p.to.length ≤ greatest_length r.output
 
 -- both places of a copy end within the longest record

@@ -6,7 +6,8 @@ ghost use Rattle.cob_move_data.specs.Moves.{IsOperand, operand_in};
 ghost use Rattle.cob_move_apply.specs.Seen.{operand_of};
 
 use cob_layout::{Kind, Layout, Place, Ref, SummedPlace};
-use cob_move_data::Side;
+use cob_layout_places::characters_are_few;
+use cob_move_data::{OperandKind, Side};
 
 /// A place that is noted.
 #[derive(Clone, Copy)]
@@ -49,31 +50,27 @@ pub(crate) struct PlacedReceivers<'a> {
     pub(crate) bases: &'a [Basis],
 }
 
-/// What an entry of the record of a layout describes.
+/// What an operand of the record of a layout describes: what its entry does, or an item of the characters of a part.
 #[inline(always)]
-pub fn entry_kind<'a>(layout: &'a Layout, entry: &Ref) -> &'a Kind
+pub fn entry_kind<'a>(layout: &'a Layout, entry: &Ref) -> OperandKind<'a>
     requires sound { IsSound layout.now }
     requires operand { IsOperand layout.now (operand_in layout.now entry.now) }
-    ensures { result.now ≡ (operand_in layout.now entry.now).kind }
+    ensures { result ≡ (operand_in layout.now entry.now).kind }
 {
-    layout.kind(entry.node)
+    // For what a part asks: it has no more characters than the longest record.
+    characters_are_few();
+    OperandKind::new(entry.part, layout.kind(entry.node))
 }
 
-/// The operand that is an entry of the record of a layout, with what its place rests on.
+/// An operand that describes this, with what its place rests on.
 #[inline(always)]
 pub(crate) fn placed_operand<'a>(
-    layout: &'a Layout,
     entry: &'a Ref,
+    kind: &'a Kind,
     basis: &'a Basis,
 ) -> PlacedOperand<'a>
-    requires sound { IsSound layout.now }
-    requires operand { IsOperand layout.now (operand_in layout.now entry.now) }
-    ensures operand { operand_of result ≡ operand_in layout.now entry.now }
+    ensures operand { operand_of result ≡ record { entry = entry.now; kind = kind.now } }
     ensures basis { result.basis.now ≡ basis.now }
 {
-    PlacedOperand {
-        entry,
-        kind: layout.kind(entry.node),
-        basis,
-    }
+    PlacedOperand { entry, kind, basis }
 }

@@ -5,6 +5,7 @@ ghost use Rattle.std.specs.List.{AllByRecursion};
 ghost use Rattle.cob_move_data.specs.Moves.{IsOperand, operand_in};
 ghost use Rattle.cob_move_apply.specs.Cut.{ArePlacesApart, LeaveEntry, LeavesPlace, MayCutEntry};
 
+use crate::item_parts::fixed_operand;
 use cob_layout::{Layout, Place, Ref};
 
 /// Whether two places share no byte.
@@ -21,7 +22,7 @@ fn leaves_place(from: Place, receiver: &Ref, output: &Layout) -> bool
     requires receiver { IsOperand output.now (operand_in output.now receiver.now) }
     ensures { IsTrue result → LeavesPlace output.now from (operand_in output.now receiver.now) }
 {
-    match output.fixed_place(receiver, true) {
+    match fixed_operand(output, receiver, true) {
         Some(to) => are_apart(from, to),
         None => false,
     }
@@ -39,7 +40,7 @@ fn leave_entry(sent: &Ref, receivers: &[Ref], output: &Layout) -> bool
     if output.varies() {
         return false;
     }
-    let Some(from) = output.fixed_place(sent, false) else {
+    let Some(from) = fixed_operand(output, sent, false) else {
         return false;
     };
     for receiver in receivers {

@@ -58,6 +58,7 @@ mod between;
 mod by_rule;
 mod constant;
 mod cutting;
+mod item_parts;
 mod laws;
 mod layouts;
 mod located;
@@ -94,7 +95,7 @@ pub use cob_layout::{
     tables, times_of, value_of,
 };
 pub use cob_move_data::{Move, NumberedPair, Operand, PairMoves, Sender, Side, StatementMoves};
-pub use laws::one_ending;
+pub use laws::{one_ending, whole_stands};
 pub use marked::MarkedMoves;
 pub use moves::Moves;
 pub use pairs::entry_below;

@@ -74,7 +74,8 @@ fn sender_place(
         layout: layouts.input,
         bytes: input,
     };
-    let sender = placed_operand(layouts.input, &one.sent, &one.from);
+    let kind = entry_kind(layouts.input, &one.sent);
+    let sender = placed_operand(&one.sent, kind.get(), &one.from);
     locate_if_there(&sending, &sender, false, survey)
 }
 
@@ -108,7 +109,8 @@ fn receiver_place(
         layout: layouts.output,
         bytes: output,
     };
-    let receiver = placed_operand(layouts.output, &one.receiver, &one.to);
+    let kind = entry_kind(layouts.output, &one.receiver);
+    let receiver = placed_operand(&one.receiver, kind.get(), &one.to);
     locate_if_there(&receiving, &receiver, true, survey)
 }
 
@@ -176,7 +178,10 @@ fn run_by_rule(
 {
     let sender = entry_kind(layouts.input, &one.sent);
     let receiver = entry_kind(layouts.output, &one.receiver);
-    let kinds = Kinds { sender, receiver };
+    let kinds = Kinds {
+        sender: sender.get(),
+        receiver: receiver.get(),
+    };
     let start = places.to.offset as usize;
     let end = start + places.to.length as usize;
     let sent = field(input, places.from);

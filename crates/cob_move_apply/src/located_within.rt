@@ -56,11 +56,13 @@ fn both_within(
         layout: layouts.output,
         bytes: output,
     };
-    let sender = placed_operand(layouts.output, &one.sent, &one.from);
+    let sends = entry_kind(layouts.output, &one.sent);
+    let sender = placed_operand(&one.sent, sends.get(), &one.from);
     let Some(from) = locate_if_there(&stored, &sender, false, &mut space.output) else {
         return None;
     };
-    let receiver = placed_operand(layouts.output, &one.receiver, &one.to);
+    let receives = entry_kind(layouts.output, &one.receiver);
+    let receiver = placed_operand(&one.receiver, receives.get(), &one.to);
     let Some(to) = locate_if_there(&stored, &receiver, true, &mut space.output) else {
         return None;
     };
@@ -132,7 +134,10 @@ fn run_there(
 {
     let sender = entry_kind(layouts.output, &one.sent);
     let receiver = entry_kind(layouts.output, &one.receiver);
-    let kinds = Kinds { sender, receiver };
+    let kinds = Kinds {
+        sender: sender.get(),
+        receiver: receiver.get(),
+    };
     copy_field(places.from, output, space.content.as_mut_slice());
     let sent = places.from.length as usize;
     let start = places.to.offset as usize;

@@ -37,7 +37,11 @@ fn same_subscripts(subscripts: &[u32]) -> ArrayVec<u32, MAX_SUBSCRIPTS>
 pub(crate) fn same_entry(entry: &Ref) -> Ref
     ensures { result ≡ entry.now }
 {
-    entry_below(entry, entry.node)
+    Ref {
+        node: entry.node,
+        subscripts: same_subscripts(entry.subscripts.as_slice()),
+        part: entry.part,
+    }
 }
 
 /// The entry with this number, with the subscripts of a group.
@@ -47,6 +51,7 @@ pub fn entry_below(group: &Ref, number: usize) -> Ref
     Ref {
         node: number,
         subscripts: same_subscripts(group.subscripts.as_slice()),
+        part: None,
     }
 }
 

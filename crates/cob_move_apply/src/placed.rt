@@ -1,10 +1,11 @@
 //! Entries that are read between moves, with what their places rest on.
 
-ghost use Rattle.std.specs.Prelude.{◌≡◌, ◌+◌, ◌≤◌, false, IfOk};
+ghost use Rattle.std.specs.Prelude.{◌≡◌, ◌+◌, ◌≤◌, false, IfOk, option_map};
+ghost use Rattle.cob_copybook_tree.specs.declared.node.Kind.TheVariants.{Item as ItemKind};
 ghost use Rattle.cob_layout.specs.Kept.{AreKeptOf};
 ghost use Rattle.cob_layout.specs.Sound.{IsSound};
 ghost use Rattle.cob_layout.specs.Storage.{greatest_length};
-ghost use Rattle.cob_move_data.specs.Moves.{IsOperand, operand_in, record_of};
+ghost use Rattle.cob_move_data.specs.Moves.{IsOperand, item_of_characters, operand_in, record_of};
 ghost use Rattle.cob_move_receive.specs.Sent.{Occupies};
 ghost use Rattle.cob_move_apply.specs.Applied.{storage_of};
 ghost use Rattle.cob_move_apply.specs.Located.{Located};
@@ -20,8 +21,8 @@ use crate::preparation::basis_of;
 use crate::scratch::Scratch;
 use crate::stop::Stop;
 use crate::survey::Survey;
-use cob_layout::{Layout, Place, Ref, records_are_sound};
-use cob_move_data::Side;
+use cob_layout::{Kind, Layout, Place, Ref, records_are_sound};
+use cob_move_data::{Side, part_kind};
 
 /// What the place of an entry of the record of a side rests on, where it is read.
 fn basis_in(side: Side, entry: &Ref, input: &Layout, output: &Layout) -> Basis
@@ -45,6 +46,10 @@ pub struct PlacedEntry {
     pub(crate) side: Side,
     pub(crate) entry: Ref,
     pub(crate) basis: Basis,
+    /// What the part of it that is meant describes, if one is.
+    pub(crate) part: Option<Kind>,
+
+    pub ghost parted: { part ≡ option_map (λ p. ItemKind (item_of_characters p.length)) entry.part },
 }
 
 impl PlacedEntry {
@@ -61,7 +66,13 @@ impl PlacedEntry {
         ensures placed { IsPlacedEntry (record { input = input.now; output = output.now }) result }
     {
         let basis = basis_in(side, &entry, input, output);
-        PlacedEntry { side, entry, basis }
+        let part = part_kind(entry.part);
+        PlacedEntry {
+            side,
+            entry,
+            basis,
+            part,
+        }
     }
 
     /// The record that it is an entry of.
@@ -76,6 +87,18 @@ impl PlacedEntry {
         ensures { result.now ≡ self.now.entry }
     {
         &self.entry
+    }
+
+    /// What it describes, by the layout of its record: what its entry does, or an item of the characters of a part.
+    pub fn kind<'a>(&'a self, layout: &'a Layout) -> &'a Kind
+        requires sound { IsSound layout.now }
+        requires operand { IsOperand layout.now (operand_in layout.now self.now.entry) }
+        ensures { result.now ≡ (operand_in layout.now self.now.entry).kind }
+    {
+        match &self.part {
+            Some(kind) => kind,
+            None => layout.kind(self.entry.node),
+        }
     }
 
     /// Where it stands in the storage of its record, by the counts there that it needs: those that are kept, and else those that are read.
@@ -101,7 +124,7 @@ impl PlacedEntry {
             layout,
             bytes,
         };
-        let operand = placed_operand(layout, &self.entry, &self.basis);
+        let operand = placed_operand(&self.entry, self.kind(layout), &self.basis);
         locate(&stored, &operand, false, survey)
     }
 

@@ -3,27 +3,26 @@
 ghost use Rattle.std.specs.Prelude.{◌≡◌, ◌+◌, ◌≤◌, IfOk, IfSome, Ok, Err};
 ghost use Rattle.cob_layout.specs.Sound.{IsSound};
 ghost use Rattle.cob_layout.specs.Storage.{greatest_length};
-ghost use Rattle.cob_move_data.specs.Moves.{IsOperand};
+ghost use Rattle.cob_move_data.specs.Moves.{IsOperand, operand_in};
 ghost use Rattle.cob_move_receive.specs.Sent.{Occupies};
 ghost use Rattle.cob_move_apply.specs.Located.{Located, stop_of};
 ghost use Rattle.cob_layout.specs.Elements.{HaveSoMany};
-ghost use Rattle.cob_layout.specs.Finding.{IsFound};
 ghost use Rattle.cob_layout.specs.Standing.{IsRoomFor, KeepsOf};
 ghost use Rattle.cob_layout.specs.Summed.{IsSummedPlace};
-ghost use Rattle.cob_layout_places.specs.References.{Refers};
-ghost use Rattle.cob_move_apply.specs.Placed.{StandsAsNoted, IsNotedIn, IsPlaced};
+ghost use Rattle.cob_move_apply.specs.Placed.{IsCutThere, StandsAsNoted, IsNotedIn, IsPlaced};
 ghost use Rattle.cob_move_apply.specs.Seen.{operand_of};
 ghost use Rattle.cob_move_apply.specs.Spent.{IsSpent, Spends};
 ghost use Rattle.cob_move_apply.specs.Surveyed.{IsSurvey};
 
 use crate::basis::{Basis, NotedPlace, PlacedOperand};
+use crate::item_parts::part_place;
 use crate::stop::{Stop, StopCause};
 use crate::survey::Survey;
 use cob_layout::{
     Counts, FindFault, Layout, Place, Ref, SummedPlace, kept_give_needed, kept_place_elements,
     one_outcome_of_counts,
 };
-use cob_layout_places::needs_are_read;
+use cob_layout_places::{characters_are_bytes, needs_are_read};
 use cob_move_data::Side;
 
 /// The storage of the record of one side.
@@ -76,6 +75,7 @@ fn place_by_counts(
     ensures spends { Spends stored.now.layout.now 0 result survey.old survey.new }
 {
     // For `spends`: each count is read once at most while it is kept, and those that are kept then are those that were needed.
+    characters_are_bytes();
     kept_give_needed();
     needs_are_read();
     one_outcome_of_counts();
@@ -83,7 +83,7 @@ fn place_by_counts(
     let counts = &mut survey.counts;
     let reads = &mut survey.reads;
     match layout.find(operand.entry, receiving, stored.bytes, counts, reads) {
-        Ok(place) => Ok(place),
+        Ok(whole) => Ok(part_place(operand.entry.part, whole)),
         Err(fault) => Err(stop_of(stored.side, fault)),
     }
 }
@@ -124,18 +124,21 @@ fn place_by_sums(
     summed: &Option<SummedPlace>,
     counts: &Counts,
 ) -> Option<Place>
-    requires refers { Refers entry.now.node entry.now.subscripts.items stored.now.layout.now }
+    requires sound { IsSound stored.now.layout.now }
+    requires operand { IsOperand stored.now.layout.now (operand_in stored.now.layout.now entry.now) }
     requires room { IsRoomFor stored.now.layout.now counts.now }
     requires kept { KeepsOf stored.now.layout.now stored.now.bytes.now counts.now }
     requires summed { IfSome summed.now
         (IsSummedPlace stored.now.layout.now entry.now receiving) }
-    ensures { IfSome result (λ p. IsFound stored.now.layout.now entry.now receiving
-        stored.now.bytes.now (Ok p) × (p.offset + p.length ≤ greatest_length stored.now.layout.now)) }
+    ensures { IfSome result (IsCutThere stored.now.layout.now receiving
+        (operand_in stored.now.layout.now entry.now) stored.now.bytes.now) }
 {
     match summed {
         Some(summed) => {
+            characters_are_bytes();
             let layout = stored.layout;
-            layout.place_by_sums(entry, receiving, stored.bytes, summed, counts)
+            let whole = layout.place_by_sums(entry, receiving, stored.bytes, summed, counts)?;
+            Some(part_place(entry.part, whole))
         }
         None => None,
     }
@@ -149,6 +152,7 @@ fn noted_place(
     receiving: bool,
     survey: &Survey,
 ) -> Option<Place>
+    requires sound { IsSound stored.now.layout.now }
     requires placed { IsPlaced stored.now.layout.now receiving
         (operand_of placed.now) placed.now.basis.now }
     requires survey { IsSurvey stored.now.layout.now stored.now.bytes.now survey.now }
@@ -213,6 +217,7 @@ fn place_if_there(
     ensures spends { IsSpent stored.now.layout.now 0 survey.old survey.new }
 {
     // For `spends`, as in `place_by_counts`.
+    characters_are_bytes();
     kept_give_needed();
     needs_are_read();
     one_outcome_of_counts();
@@ -224,10 +229,13 @@ fn place_if_there(
         .layout
         .find(entry, receiving, stored.bytes, kept, read)
     {
-        Ok(place) => Some(Place {
-            offset: place.offset,
-            length: place.length,
-        }),
+        Ok(whole) => {
+            let place = part_place(entry.part, whole);
+            Some(Place {
+                offset: place.offset,
+                length: place.length,
+            })
+        }
         Err(FindFault::Subscript(_)) => None,
         Err(FindFault::Count(_)) => {
             survey.reads = told;

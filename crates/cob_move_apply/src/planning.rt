@@ -27,6 +27,7 @@ ghost use Rattle.cob_move_steps.specs.Pool.{KeepsSteps};
 
 use crate::basis::entry_kind;
 use crate::cutting::may_cut_entry;
+use crate::item_parts::fixed_operand;
 use crate::pairs::entry_below;
 use crate::preparation::push_bases;
 use crate::ready::{
@@ -98,11 +99,11 @@ fn plain_copy(sent: &Ref, receiver: &Ref, both: &Between<'_>) -> Option<MovePlac
     records_are_sound();
     let _ = both.input.greatest();
     let _ = both.output.greatest();
-    let from = both.input.fixed_place(sent, false)?;
-    let to = both.output.fixed_place(receiver, true)?;
+    let from = fixed_operand(both.input, sent, false)?;
+    let to = fixed_operand(both.output, receiver, true)?;
     let sends = entry_kind(both.input, sent);
     let receives = entry_kind(both.output, receiver);
-    if from.length == to.length && copies_bytes(sends, receives) {
+    if from.length == to.length && copies_bytes(sends.get(), receives.get()) {
         Some(MovePlaces { from, to })
     } else {
         None

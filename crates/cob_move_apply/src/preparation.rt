@@ -15,19 +15,30 @@ ghost use Rattle.cob_move_data.specs.Moves.{
 ghost use Rattle.cob_move_apply.specs.Placed.{AddsMove, AddsReceivers, IsBasis, IsPlacedSender};
 
 use crate::basis::{Basis, NotedPlace};
-use cob_layout::{ElementPlace, Layout, Ref};
+use crate::item_parts::{fixed_operand, has_part, part_place};
+use cob_layout::{ElementPlace, Layout, Ref, records_are_sound};
 use cob_move_data::{Sender, Side};
 use std::alloc::AllocError;
 
-/// What the place of an element rests on that is there by one count. None where that needs more elements than 16 bits tell: no table has as many.
-fn element_basis(element: ElementPlace) -> Option<Basis>
-    ensures { (layout : Forest Resolved) (receiving : Bool) (operand : Operand)
-        → IsElementPlace layout operand.entry receiving element
-        → IfSome result (IsBasis layout receiving operand) }
+/// What the place of an operand rests on whose element is there by one count. None where that needs more elements than 16 bits tell: no table has as many.
+fn element_basis(
+    layout: &Layout,
+    entry: &Ref,
+    receiving: bool,
+    element: ElementPlace,
+) -> Option<Basis>
+    requires operand { IsOperand layout.now (operand_in layout.now entry.now) }
+    requires element { IsElementPlace layout.now entry.now receiving element }
+    ensures { IfSome result (IsBasis layout.now receiving (operand_in layout.now entry.now)) }
 {
+    records_are_sound();
+    let _ = layout.greatest();
+    if !has_part(entry.part, element.place.length) {
+        return None;
+    }
     match u16::try_from(element.least) {
         Ok(least) if least > 0 => Some(Basis::Noted(NotedPlace {
-            place: element.place,
+            place: part_place(entry.part, element.place),
             least,
         })),
         _ => None,
@@ -39,11 +50,11 @@ pub(crate) fn basis_of(layout: &Layout, entry: &Ref, receiving: bool) -> Basis
     requires operand { IsOperand layout.now (operand_in layout.now entry.now) }
     ensures { IsBasis layout.now receiving (operand_in layout.now entry.now) result }
 {
-    if let Some(place) = layout.fixed_place(entry, receiving) {
+    if let Some(place) = fixed_operand(layout, entry, receiving) {
         return Basis::Noted(NotedPlace { place, least: 0 });
     }
     if let Some(element) = layout.element_place(entry, receiving) {
-        if let Some(basis) = element_basis(element) {
+        if let Some(basis) = element_basis(layout, entry, receiving, element) {
             return basis;
         }
     }

@@ -12,6 +12,7 @@ ghost use Rattle.cob_move_steps.specs.Pictured.{KeepsPictured};
 ghost use Rattle.cob_move_steps.specs.Pool.{KeepsSteps};
 
 use crate::basis::{Basis, entry_kind};
+use crate::item_parts::fixed_operand;
 use crate::pairs::same_entry;
 use crate::planning::Between;
 use crate::preparation::basis_of;
@@ -82,8 +83,8 @@ fn fixed_places(side: Side, sent: &Ref, receiver: &Ref, both: &Between<'_>) -> O
     ensures { IfSome result (AreFixedPlaces side (records_between both.now) sent.now
         receiver.now) }
 {
-    let sends = layout_of(side, both).fixed_place(sent, false)?;
-    let receives = both.output.fixed_place(receiver, true)?;
+    let sends = fixed_operand(layout_of(side, both), sent, false)?;
+    let receives = fixed_operand(both.output, receiver, true)?;
     Some(MovePlaces {
         from: sends,
         to: receives,
@@ -119,7 +120,12 @@ fn pictured_entry(
     };
     let sends = entry_kind(both.input, sent);
     let receives = entry_kind(both.output, receiver);
-    match pictured.prepare(sends, places.from.length, receives, places.to.length)? {
+    match pictured.prepare(
+        sends.get(),
+        places.from.length,
+        receives.get(),
+        places.to.length,
+    )? {
         Some(step) => Ok(Some(PicturedMove { places, step })),
         None => Ok(None),
     }
@@ -185,7 +191,12 @@ fn prepared_entry(
     };
     let sends = entry_kind(sending, sent);
     let receives = entry_kind(both.output, receiver);
-    match prepared.prepare(sends, places.from.length, receives, places.to.length)? {
+    match prepared.prepare(
+        sends.get(),
+        places.from.length,
+        receives.get(),
+        places.to.length,
+    )? {
         Some(step) => Ok(Some(PreparedMove { places, step })),
         None => Ok(None),
     }
@@ -286,7 +297,7 @@ fn located_entry(
     let _ = both.output.greatest();
     let sends = entry_kind(sending, sent);
     let receives = entry_kind(both.output, receiver);
-    let step = located_step(sends, receives, prepared, pictured)?;
+    let step = located_step(sends.get(), receives.get(), prepared, pictured)?;
     let from = basis_of(sending, sent, false);
     Ok(LocatedMove {
         sent: same_entry(sent),
@@ -349,14 +360,14 @@ fn ready_constant(
 {
     records_are_sound();
     let _ = both.output.greatest();
-    let Some(to) = both.output.fixed_place(receiver, true) else {
+    let Some(to) = fixed_operand(both.output, receiver, true) else {
         return Ok(None);
     };
     if to.length > MOST_READY {
         return Ok(None);
     }
     let receives = entry_kind(both.output, receiver);
-    match ConstantStep::prepare(both.alloc, value, receives, to.length as usize)? {
+    match ConstantStep::prepare(both.alloc, value, receives.get(), to.length as usize)? {
         Some(step) => Ok(Some(ReadyConstant { to, step })),
         None => Ok(None),
     }
@@ -429,7 +440,7 @@ fn located_constant(
     let _ = both.output.greatest();
     let receives = entry_kind(both.output, receiver);
     let to = basis_of(both.output, receiver, true);
-    match constant_anywhere(value, receives, both.alloc)? {
+    match constant_anywhere(value, receives.get(), both.alloc)? {
         Some(step) => Ok(Some(ReadyLocatedConstant {
             receiver: same_entry(receiver),
             to,

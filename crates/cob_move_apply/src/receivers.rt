@@ -11,7 +11,7 @@ ghost use Rattle.cob_move_apply.specs.Seen.{operand_of, receivers_in};
 ghost use Rattle.cob_move_apply.specs.Spent.{ReceiversSpend, ReceiverSpends};
 ghost use Rattle.cob_move_apply.specs.Surveyed.{IsSurvey};
 
-use crate::basis::{PlacedOperand, PlacedReceivers, placed_operand};
+use crate::basis::{PlacedOperand, PlacedReceivers, entry_kind, placed_operand};
 use crate::places::{Stored, locate};
 use crate::stop::{Stop, StopCause};
 use crate::survey::Survey;
@@ -96,7 +96,8 @@ pub(crate) fn receive_all(
         (receivers_in layout.now receivers.now) output.old result output.new survey.old survey.new }
 {
     for (index, entry) in receivers.entries.iter().enumerate() {
-        let receiver = placed_operand(layout, entry, &receivers.bases[index]);
+        let kind = entry_kind(layout, entry);
+        let receiver = placed_operand(entry, kind.get(), &receivers.bases[index]);
         receive_one(layout, given, &receiver, output, survey)?;
     }
     Ok(())

@@ -12,7 +12,7 @@ ghost use Rattle.cob_move_apply.specs.Promised.{MoveSpends, entry_move, operand_
 ghost use Rattle.cob_move_apply.specs.Seen.{entry_sent, operand_of, receivers_in};
 ghost use Rattle.cob_move_apply.specs.Surveyed.{IsWorkspace, records};
 
-use crate::basis::{Basis, PlacedOperand, PlacedReceivers, SentEntry, placed_operand};
+use crate::basis::{Basis, PlacedOperand, PlacedReceivers, SentEntry, entry_kind, placed_operand};
 use crate::layouts::Layouts;
 use crate::places::{Stored, locate};
 use crate::receivers::{Given, receive_all};
@@ -155,11 +155,13 @@ pub(crate) fn move_entry(
 {
     match sent.side {
         Side::In => {
-            let sender = placed_operand(layouts.input, sent.entry, &sent.basis);
+            let kind = entry_kind(layouts.input, sent.entry);
+            let sender = placed_operand(sent.entry, kind.get(), &sent.basis);
             move_from_input(&sender, receivers, layouts, input, output, space)
         }
         Side::Out => {
-            let sender = placed_operand(layouts.output, sent.entry, &sent.basis);
+            let kind = entry_kind(layouts.output, sent.entry);
+            let sender = placed_operand(sent.entry, kind.get(), &sent.basis);
             move_within_output(&sender, receivers, layouts, input, output, space)
         }
     }

@@ -99,7 +99,8 @@ fn value_of(
         (sender_asked (records_of entries.now) (Some entry.now)) (written_value written.now)) }
 {
     let value = constant_compared(written)?;
-    let kind = SenderKind::Entry(entries.kind(entry.side, &entry.entry));
+    let own = entries.kind(entry.side, &entry.entry);
+    let kind = SenderKind::Entry(own.get());
     if !may_compare(&kind, &SenderKind::Constant(&value)) {
         return Err(MoveRule::NotComparable);
     }

@@ -238,7 +238,7 @@ constant_first (Repeated text) ws (all, w, is_all, literal, same, e) free = (all
 
 pub operand_first : (s : WrittenSender) (ws : List Lexeme) → IsWrittenOperand s ws → (w : Lexeme) × (rest : List Lexeme) × (ws ≡ w ∷ rest) × BeginsOperand w
 operand_first (SentReference r) ws (is, free) =
-    (is.named, is.behind ++ is.brackets, is.words, by_class term.Plain is.named (name_plain is.named is.is) (λ g. cc) (λ g. cc) (λ g. cc) (free_first is.named (is.behind ++ is.brackets) ws is.words free))
+    (is.named, is.behind ++ (is.brackets ++ is.end), is.words, by_class term.Plain is.named (name_plain is.named is.is) (λ g. cc) (λ g. cc) (λ g. cc) (free_first is.named (is.behind ++ (is.brackets ++ is.end)) ws is.words free))
 operand_first (SentConstant c) ws ((is, figurative, no_name), free) = constant_first c ws is free
 
 -- an operand comes first where one does

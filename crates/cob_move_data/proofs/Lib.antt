@@ -1,1 +1,2 @@
 pub mod SingleLemmas
+pub mod WholeLemmas

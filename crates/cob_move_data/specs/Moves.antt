@@ -1,15 +1,20 @@
 -- Moves between two records.
-use Rattle.std.specs.Prelude.{◌≡◌, ℕ, List, [], ◌∷◌, map, Option, Some, None}
+use Rattle.std.specs.Prelude.{◌≡◌, ℕ, false, List, [], ◌∷◌, map, Option, Some, None, option_map}
 use Rattle.std.specs.List.{AllByRecursion, flat_map}
 use Rattle.cob_codec.specs.declared.reading.Reading.{Reading}
 use Rattle.cob_codec.specs.declared.reading.Reading.TheVariants.{Pictured}
+use Rattle.cob_picture.specs.Characters.{picture_of_characters}
+use Rattle.cob_copybook_entry.specs.declared.kinds.Usage.TheVariants.{Display}
 use Rattle.cob_copybook_entry.specs.Described.{PlainValue, plain_value}
+use Rattle.cob_copybook_tree.specs.declared.node.Item.{Item}
 use Rattle.cob_copybook_tree.specs.declared.node.Kind.{Kind}
-use Rattle.cob_copybook_tree.specs.declared.node.Kind.TheVariants.{Group}
+use Rattle.cob_copybook_tree.specs.declared.node.Kind.TheVariants.{Group, Item as ItemKind}
 use Rattle.cob_copybook_tree.specs.Forests.{Forest}
 use Rattle.cob_copybook_tree.specs.Nodes.{Resolved}
 use Rattle.cob_layout_places.specs.Counts.{kind_in}
+use Rattle.cob_layout_places.specs.Parts.{IsPartIn, characters_in}
 use Rattle.cob_layout_places.specs.References.{Refers}
+use Rattle.cob_layout_places.specs.declared.reference.ItemPart.{ItemPart}
 use Rattle.cob_layout_places.specs.declared.reference.Ref.{Ref}
 use Rattle.cob_move_data.specs.declared.operands.Side.{Side}
 use Rattle.cob_move_data.specs.declared.operands.Side.TheVariants.{In, Out}
@@ -47,9 +52,23 @@ abbrev pub or_group : Option Kind → Kind
 or_group None = Group
 or_group (Some kind) = kind
 
--- the operand that a reference names in a record: of the entry's kind there
+-- the elementary item of so many characters: PIC X(n), DISPLAY, neither JUSTIFIED nor BLANK WHEN ZERO
+abbrev pub item_of_characters : ℕ → Item
+item_of_characters n = record { picture = picture_of_characters n; usage = Display; sign = None; justified = false; blank = false }
+
+-- what a part of an element describes, whatever the entry does: an elementary item of its characters. All of an element is what its entry describes.
+abbrev pub kind_of_part : Option ItemPart → Kind → Kind
+kind_of_part None kind = kind
+kind_of_part (Some p) kind = ItemKind (item_of_characters p.length)
+
+-- this kind, or the other where there is none
+abbrev pub kind_or : Option Kind → Kind → Kind
+kind_or None other = other
+kind_or (Some kind) other = kind
+
+-- the operand that a reference names in a record: of the entry's kind there, or that of the part that is meant
 abbrev pub operand_in : Forest Resolved → Ref → Operand
-operand_in tree r = record { entry = r; kind = or_group (kind_in r.node tree) }
+operand_in tree r = record { entry = r; kind = kind_of_part r.part (or_group (kind_in r.node tree)) }
 
 -- what the code's value stands for between two records, its binary item read so
 abbrev pub sender_by : Reading → Records → code.Sender → Sender
@@ -70,7 +89,7 @@ move records m = move_by Pictured records m
 
 -- the entry with this number, with the subscripts of a group
 abbrev pub entry_below : Ref → ℕ → Ref
-entry_below group number = record { node = number; subscripts = group.subscripts }
+entry_below group number = record { node = number; subscripts = group.subscripts; part = None }
 
 -- the move of a pair of two groups, by the numbers of its entries, its sender read so
 abbrev pub numbered_move_by : Reading → Records → PairMoves → NumberedPair → Move
@@ -109,10 +128,12 @@ sent_by reading (Literal c) = Literal c
 abbrev pub read_by : Reading → Move → Move
 read_by reading m = record { sender = sent_by reading m.sender; receivers = m.receivers }
 
--- an operand refers to an entry of the record, with a subscript for each of its tables, and is of the kind that the record says
+-- an operand refers to an entry of the record, with a subscript for each of its tables, and is of the kind that the record says; a part of an element is one
+-- of its characters
 pub record IsOperand (tree : Forest Resolved) (o : Operand) : Type 0 where
   pub refers : Refers o.entry.node o.entry.subscripts.items tree
-  pub is : kind_in o.entry.node tree ≡ Some o.kind
+  pub is : option_map (kind_of_part o.entry.part) (kind_in o.entry.node tree) ≡ Some o.kind
+  pub parted : IsPartIn (characters_in o.entry.node tree) o.entry.part
 
 -- a sender is an operand of its side's record, or a constant
 abbrev pub IsSender : Records → Sender → Type 0

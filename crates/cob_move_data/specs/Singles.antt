@@ -1,5 +1,5 @@
 -- Single moves: each of what is sent to one occurrence of an entry of the output record.
-use Rattle.std.specs.Prelude.{◌+◌, ◌≡◌, ℕ, List, [], ◌∷◌, ◌++◌, drop, map}
+use Rattle.std.specs.Prelude.{◌+◌, ◌≡◌, ℕ, List, [], ◌∷◌, ◌++◌, drop, map, Option, None}
 use Rattle.cob_codec.specs.declared.reading.Reading.{Reading}
 use Rattle.cob_copybook_entry.specs.Described.{PlainValue, plain_value}
 use Rattle.cob_copybook_tree.specs.Forests.{Forest}
@@ -15,6 +15,7 @@ use Rattle.cob_move_data.specs.declared.operands.Sender.TheVariants as code_send
 use Rattle.cob_move_data.specs.declared.operands.Side.{Side}
 use Rattle.cob_move_data.specs.declared.operands.StatementMoves.{StatementMoves}
 use Rattle.cob_move_data.specs.declared.operands.StatementMoves.TheVariants.{Single, Pairs}
+use Rattle.cob_layout_places.specs.declared.reference.ItemPart.{ItemPart}
 use Rattle.cob_layout_places.specs.declared.reference.Ref.{Ref}
 use Rattle.cob_move_data.specs.declared.single.Element.{Element}
 use Rattle.cob_move_data.specs.declared.single.Sent.{Sent}
@@ -31,16 +32,18 @@ occurrence number subscripts = record { number = number; subscripts = subscripts
 abbrev pub occurrence_by : Ref → Occurrence
 occurrence_by r = occurrence r.node r.subscripts.items
 
--- what a single move sends: an occurrence of an entry of one of the records, or a literal or figurative constant
+-- what a single move sends: an occurrence of an entry of one of the records, or a part of it, or a literal or figurative constant
 pub data PlainSent : Type 0 where
-  Entry : Side → Occurrence → PlainSent
+  Entry : Side → Occurrence → Option ItemPart → PlainSent
   Literal : PlainValue → PlainSent
 
--- the place of a single move's statement in the paragraph, what is sent, and the occurrence of an entry of the output record that receives it
+-- the place of a single move's statement in the paragraph, what is sent, and the occurrence of an entry of the output record that receives it, or the part of
+-- it that does
 pub record PlainSingle : Type 0 where
   pub statement : ℕ
   pub sent : PlainSent
   pub receiver : Occurrence
+  pub part : Option ItemPart
 
 -- ---- of the code
 
@@ -50,27 +53,27 @@ plain_element e = occurrence e.number e.subscripts.now
 
 -- what the code's value sends
 abbrev pub plain_sent : Sent → PlainSent
-plain_sent (code_sent.Entry side entry) = Entry side (plain_element entry)
+plain_sent (code_sent.Entry side entry) = Entry side (plain_element entry) entry.part
 plain_sent (code_sent.Constant value) = Literal (plain_value value.now)
 
 -- the single move that the code's value is
 abbrev pub plain_single : code_single.SingleMove → PlainSingle
-plain_single s = record { statement = s.statement; sent = plain_sent s.sent; receiver = plain_element s.receiver }
+plain_single s = record { statement = s.statement; sent = plain_sent s.sent; receiver = plain_element s.receiver; part = s.receiver.part }
 
 -- ---- of statements
 
 -- what a sender sends
 abbrev pub sent_by_sender : code.Sender → PlainSent
-sent_by_sender (code_sender.Entry side entry) = Entry side (occurrence_by entry)
+sent_by_sender (code_sender.Entry side entry) = Entry side (occurrence_by entry) entry.part
 sent_by_sender (code_sender.Constant value) = Literal (plain_value value)
 
 -- what a pair of two groups sends
 abbrev pub sent_by_pair : PairMoves → NumberedPair → PlainSent
-sent_by_pair g p = Entry g.side (occurrence p.from g.from.subscripts.items)
+sent_by_pair g p = Entry g.side (occurrence p.from g.from.subscripts.items) None
 
 -- the single move of what is sent to what a reference names
 abbrev pub single_to : ℕ → PlainSent → Ref → PlainSingle
-single_to statement sent r = record { statement = statement; sent = sent; receiver = occurrence_by r }
+single_to statement sent r = record { statement = statement; sent = sent; receiver = occurrence_by r; part = r.part }
 
 -- the single move of a pair of two groups
 abbrev pub single_of_pair : ℕ → PairMoves → NumberedPair → PlainSingle
@@ -78,6 +81,7 @@ single_of_pair statement g p = record {
   statement = statement;
   sent = sent_by_pair g p;
   receiver = occurrence p.to g.to.subscripts.items;
+  part = None;
 }
 
 -- the single moves of the statement with this place
@@ -137,18 +141,18 @@ all_singles (m ∷ ms) = singles_from m.sender m.receivers ++ all_singles ms
 abbrev pub occurrence_of : Operand → Occurrence
 occurrence_of o = occurrence o.entry.node o.entry.subscripts.items
 
--- the operand that an occurrence of an entry of a record is
-abbrev pub operand_at : Forest Resolved → Occurrence → Operand
-operand_at tree x = operand_in tree record { node = x.number; subscripts = record { items = x.subscripts } }
+-- the operand that an occurrence of an entry of a record is, or a part of it
+abbrev pub operand_at : Forest Resolved → Occurrence → Option ItemPart → Operand
+operand_at tree x part = operand_in tree record { node = x.number; subscripts = record { items = x.subscripts }; part = part }
 
 -- what is sent between two records, its binary item read so
 abbrev pub sender_between : Reading → Records → PlainSent → Sender
-sender_between reading records (Entry side x) = between.Entry side reading (operand_at (record_of records side) x)
+sender_between reading records (Entry side x part) = between.Entry side reading (operand_at (record_of records side) x part)
 sender_between reading records (Literal c) = between.Literal c
 
 -- the single move between two records that this one means, its sender's binary item read so
 abbrev pub single_between : Reading → Records → PlainSingle → SingleMove
-single_between reading records s = record { sender = sender_between reading records s.sent; receiver = operand_at records.output s.receiver }
+single_between reading records s = record { sender = sender_between reading records s.sent; receiver = operand_at records.output s.receiver s.part }
 
 -- The single moves of statements are those of the moves that the statements mean: each is of the sender of one of these moves to one of its receivers.
 pub record AreSinglesOfMoves (statements : List StatementMoves) : Type 0 where

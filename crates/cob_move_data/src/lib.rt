@@ -6,6 +6,8 @@
 //! two records (`moves`), and says when these are moves there: each operand refers to an entry of its record, and is of the kind that the record says
 //! (`IsMove`).
 //!
+//! A part of an element is an operand, too: an elementary item of its characters, whatever the entry describes ([`kind_of_part`], [`OperandKind`]).
+//!
 //! Who asks for single moves need not know in which form a statement keeps its moves:
 //!
 //! - [`Singles`] gives the single moves of a paragraph's statements one behind another, each as a [`SingleMove`]: what is sent, and one occurrence that
@@ -17,17 +19,19 @@
 //!
 //! # Where it is proved
 //!
-//! Which moves its data means (`moves_by`); what the iterators `Singles` and `Senders` give, and the clause of `single_at`; the laws `singles_of_moves`,
+//! Which moves its data means (`moves_by`); the clauses of `kind_of_part` and `OperandKind`; what the iterators `Singles` and `Senders` give, and the clause of `single_at`; the laws `whole_operands`, `singles_of_moves`,
 //! `senders_of_moves`.
 #![tactic(auto)]
 
+mod kinds;
 mod laws;
 mod operands;
 mod senders;
 mod single;
 mod singles;
 
-pub use laws::{senders_of_moves, singles_of_moves};
+pub use kinds::{OperandKind, kind_of_part, part_kind};
+pub use laws::{senders_of_moves, singles_of_moves, whole_operands};
 pub use operands::{Move, NumberedPair, Operand, PairMoves, Sender, Side, StatementMoves};
 pub use senders::Senders;
 pub use single::{Element, Sent, SingleMove, single_at};

@@ -5,13 +5,15 @@ ghost use Rattle.cob_move_data.specs.Singles.{occurrence_by, plain_element, plai
 
 use crate::operands::{Move, NumberedPair, PairMoves, Sender, Side, StatementMoves};
 use cob_copybook_tree::Value;
-use cob_layout_places::Ref;
+use cob_layout_places::{ItemPart, Ref};
 
-/// An occurrence of an entry of a record: the number of the entry, and its subscripts.
+/// An occurrence of an entry of a record, or a part of it: the number of the entry, and its subscripts.
 #[derive(Clone, Copy)]
 pub struct Element<'a> {
     pub number: usize,
     pub subscripts: &'a [u32],
+    /// The part that is meant. None where all of it is.
+    pub part: Option<ItemPart>,
 }
 
 /// What a single move sends.
@@ -32,13 +34,15 @@ pub struct SingleMove<'a> {
     pub receiver: Element<'a>,
 }
 
-/// The occurrence that a reference names.
+/// The occurrence that a reference names, or the part of it.
 fn element_of(entry: &Ref) -> Element<'_>
-    ensures { plain_element result ≡ occurrence_by entry.now }
+    ensures element { plain_element result ≡ occurrence_by entry.now }
+    ensures part { result.part ≡ entry.now.part }
 {
     Element {
         number: entry.node,
         subscripts: entry.subscripts.as_slice(),
+        part: entry.part,
     }
 }
 
@@ -75,6 +79,7 @@ fn sent_of_pair<'a>(group: &'a PairMoves, pair: &NumberedPair) -> Sent<'a>
         entry: Element {
             number: pair.from,
             subscripts: group.from.subscripts.as_slice(),
+            part: None,
         },
     }
 }
@@ -89,6 +94,7 @@ fn single_of_pair<'a>(statement: usize, group: &'a PairMoves, pair: &NumberedPai
         receiver: Element {
             number: pair.to,
             subscripts: group.to.subscripts.as_slice(),
+            part: None,
         },
     }
 }

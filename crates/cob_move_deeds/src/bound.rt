@@ -65,7 +65,7 @@ fn number_in(bound: &Bound, layout: &Layout, place: Place, bytes: &[u8]) -> Resu
     ensures { (r : Records) → record_of r bound.now.item.side ≡ layout.now
         → BoundSaysIn (past_bound r bound.now 0) place bytes.now result }
 {
-    match entry_kind(layout, bound.item.entry()) {
+    match bound.item.kind(layout) {
         Kind::Item(item) => number_at(bound, item, place, bytes),
         Kind::Group => Ok(0),
     }

@@ -52,7 +52,7 @@ fn sent_at<'a>(
         (field_of place bytes.now) reading }
 {
     Sent::Entry {
-        kind: entry_kind(layout, entry.entry()),
+        kind: entry.kind(layout),
         bytes: field(bytes, place),
         reading,
     }

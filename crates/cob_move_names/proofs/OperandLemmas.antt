@@ -1,6 +1,6 @@
 -- What is below a group refers with the group's subscripts.
 use Rattle.std.proofs.Common.{◌≡◌, ℕ, ◌+◌, ◌<◌, ◌≤◌, ◌==◌, Bool, true, false, List, [], ◌∷◌, ◌++◌, refl, sym, ap, subst, ◌∙◌, inl, inr, ◌⊎◌, arith, Option, Some, None}
-use Rattle.std.specs.Prelude.{◌||◌, is_some, if◌then◌else◌}
+use Rattle.std.specs.Prelude.{◌||◌, is_some, if◌then◌else◌, option_map}
 use Rattle.std.proofs.lemmas.Bool.Decides.{nat_tests}
 use Rattle.cob_copybook_names.specs.Naming.{with_name}
 use Rattle.cob_copybook_tree.specs.declared.node.Kind.{Kind}
@@ -12,7 +12,7 @@ use Rattle.cob_layout_places.specs.Counts.{kind_in}
 use Rattle.cob_layout_places.specs.Cover.{AreNumbered}
 use Rattle.cob_layout_places.specs.References.{IsSubscripted, Refers}
 use Rattle.cob_move_data.specs.declared.operands.Operand.{Operand}
-use Rattle.cob_move_data.specs.Moves.{IsOperand}
+use Rattle.cob_move_data.specs.Moves.{IsOperand, kind_of_part}
 use Rattle.cob_move_names.specs.Groups.{IsListed, SubordinatesAreOperands, entries_below, found_below, operand_below, or_bare}
 use Rattle.cob_move_names.specs.Pairs.{Subordinate, is_left_out, own_subordinate, subordinates}
 
@@ -189,7 +189,7 @@ are_operands : (t : Forest Resolved) (group : Operand) (s : Subordinate) → Has
 are_operands t group s (g, i) listed =
     let below : IsListed s (subordinates [] g) = subst (λ (x : Forest Resolved). IsListed s (subordinates [] x)) (ap or_bare i.found) listed in
     let w : Stands 0 s.number group.entry.subscripts.items s.kind t = i.all s.number s.kind (stands_below [] i.first g s i.numbered below) in
-    record { refers = w.refers; is = w.kind }
+    record { refers = w.refers; is = ap (option_map (kind_of_part None)) w.kind; parted = tt }
 
 pub subordinates_are_operands : SubordinatesAreOperands
 subordinates_are_operands t group s h is listed = are_operands t group s (group_at 0 group.entry.node group.entry.subscripts.items t h is.refers) listed

@@ -24,7 +24,7 @@ entries_below number f = or_bare (found_below number f)
 
 -- An entry below a group as an operand: it has the subscripts of the group, since no table stands between.
 abbrev pub operand_below : Operand → Subordinate → Operand
-operand_below group s = record { entry = record { node = s.number; subscripts = group.entry.subscripts }; kind = s.kind }
+operand_below group s = record { entry = record { node = s.number; subscripts = group.entry.subscripts; part = None }; kind = s.kind }
 
 -- this is one of these
 abbrev pub IsListed : Subordinate → List Subordinate → Type 0

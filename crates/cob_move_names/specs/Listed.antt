@@ -2,6 +2,8 @@
 use Rattle.std.specs.Prelude.{◌≡◌, ◌+◌, ℕ, List, [], ◌∷◌, ◌++◌, map}
 use Rattle.cob_copybook_conditions.specs.Names.{plain_span}
 use Rattle.cob_copybook_tree.specs.declared.node.Node.TheViews.{out-Node}
+use Rattle.cob_copybook_tree.specs.Nodes.{forest}
+use Rattle.cob_layout_places.specs.Parts.{characters_of}
 use Rattle.cob_copybook_names.specs.declared.bearer.Bearer.{Bearer as Listed}
 use Rattle.cob_copybook_names.specs.Listed.{bearer_by}
 use Rattle.cob_copybook_names.specs.Naming.{Bearer}
@@ -12,7 +14,13 @@ use Rattle.cob_move_names.specs.Valued.{ValuedEntry}
 
 -- What is known of a listed entry.
 abbrev pub listed_record_entry : ListedEntry → RecordEntry
-listed_record_entry e = record { side = e.side; number = (out-Node e.entry.now).number; tables = e.tables.items; kind = (out-Node e.entry.now).kind }
+listed_record_entry e = record {
+  side = e.side;
+  number = (out-Node e.entry.now).number;
+  tables = e.tables.items;
+  kind = (out-Node e.entry.now).kind;
+  characters = characters_of (out-Node e.entry.now).kind (forest (out-Node e.entry.now).children.items);
+}
 
 -- A listed entry, with its names.
 abbrev pub candidate_of : Listed ListedEntry → Candidate

@@ -1,13 +1,15 @@
 //! The entries of a record with what stands above them.
 
 ghost use Rattle.std.specs.Prelude.{◌≡◌, ◌+◌, ◌≤◌, List, [], ◌∷◌, ◌++◌, length, map, OnOk};
-ghost use Rattle.cob_copybook_tree.specs.Lengths.{greatest_number};
-ghost use Rattle.cob_copybook_tree.specs.Nodes.{resolved_entry, tree_of};
+ghost use Rattle.cob_copybook_tree.specs.Lengths.{greatest_number, whole_length};
+ghost use Rattle.cob_copybook_tree.specs.Nodes.{forest, node, resolved_entry, tree_of};
 ghost use Rattle.cob_copybook_tree.specs.declared.node.Node.TheViews.{out-Node};
 ghost use Rattle.cob_copybook_names.specs.Listed.{texts};
 ghost use Rattle.cob_layout.specs.Sound.{AreNested, own_dimension};
 ghost use Rattle.cob_layout_places.specs.Places.{is_table};
-ghost use Rattle.cob_limits.specs.Limits.{most_dimensions};
+ghost use Rattle.cob_layout_places.specs.Lengths.{MayOccur};
+ghost use Rattle.cob_layout_places.specs.Parts.{AreMeasured};
+ghost use Rattle.cob_limits.specs.Limits.{longest_record, most_dimensions};
 ghost use Rattle.cob_move_names.specs.Candidates.{candidate, candidates, with_table};
 ghost use Rattle.cob_move_names.specs.Listed.{ListsMore};
 
@@ -28,6 +30,10 @@ pub(crate) struct RecordEntry<'a> {
     pub entry: &'a Node,
     /// The tables that hold it or that it is.
     pub tables: CandidateTables,
+
+    pub ghost possible: { MayOccur (tree_of entry.now) },
+    pub ghost short: { whole_length greatest_number (node entry.now).top (node entry.now).beneath
+        ≤ longest_record },
 }
 
 /// The tables that hold an entry, and itself if it is one.
@@ -58,8 +64,12 @@ fn list_entry<'a>(
 ) -> Result<(), AllocError>
     requires nested { length holding.now + own_dimension (out-Node entry.now).occurs
         ≤ most_dimensions }
+    requires possible { MayOccur (tree_of entry.now) }
+    requires short { whole_length greatest_number (node entry.now).top (node entry.now).beneath ≤
+        longest_record }
     ensures { OnOk result (ListsMore listed.old.items listed.new.items
-        (candidate side (texts above.now) holding.now (resolved_entry (out-Node entry.now)) ∷ [])) }
+        (candidate side (texts above.now) holding.now (resolved_entry (out-Node entry.now))
+        (forest (out-Node entry.now).children.items) ∷ [])) }
 {
     let mut names = Vec::new(alloc);
     names.extend_from_slice(above)?;
@@ -91,6 +101,8 @@ pub(crate) fn list_tree<'a>(
     listed: &mut Vec<Bearer<'a, RecordEntry<'a>>>,
 ) -> Result<(), AllocError>
     requires nested { AreNested (length holding.now) (tree_of entry.now) }
+    requires possible { MayOccur (tree_of entry.now) }
+    requires measured { AreMeasured (tree_of entry.now) }
     ensures { OnOk result (ListsMore listed.old.items listed.new.items
         (candidates side (texts above.now) holding.now (tree_of entry.now))) }
 {

@@ -1,28 +1,32 @@
 //! What a written reference names.
 
-ghost use Rattle.std.specs.Prelude.{◌≡◌, [], IfErr, IfNone, IfOk, IfSome, IsOkAnd, OnOk};
+ghost use Rattle.std.specs.Prelude.{◌≡◌, ◌<◌, ◌+◌, ◌-◌, ◌≤◌, ◌×◌, ℕ, [], None, Some, IfErr, IfNone, IfOk, IfSome, IsOkAnd, OnOk, option_map};
 ghost use Rattle.cob_source.specs.Tokens.{lexemes};
+ghost use Rattle.cob_limits.specs.Limits.{longest_record};
+ghost use Rattle.cob_move_data.specs.Moves.{kind_of_part};
 ghost use Rattle.cob_move_data.specs.declared.operands.Operand.{Operand as SeenOperand};
 ghost use Rattle.cob_move_data.specs.declared.operands.Side.TheVariants.{Out};
-ghost use Rattle.cob_move_statements.specs.Written.{word_texts, written_reference};
+ghost use Rattle.cob_move_statements.specs.Written.{word_texts, written_part, written_reference};
 ghost use Rattle.cob_copybook_conditions.specs.Names.{plain_condition_names};
 ghost use Rattle.cob_move_names.specs.Candidates.{all_entries, candidates};
 ghost use Rattle.cob_move_names.specs.Directory.{FindsOnly, entries_named, operand_with_values, values_named};
 ghost use Rattle.cob_move_names.specs.Listed.{ListsMore, ListsValues, listed_record_entry};
-ghost use Rattle.cob_move_names.specs.References.{AreSubscriptsOf, BreaksReceiver, BreaksReference, NamesOperand, entry_operand, subscript_numbers};
+ghost use Rattle.cob_move_names.specs.References.{AreSubscriptsOf, BreaksReceiver, BreaksReference, HasPart, IsLengthOf, NamesOperand, length_meant, part_meant, subscript_numbers};
 ghost use Rattle.cob_move_names.specs.Valued.{all_values, named_values, plain_names};
 ghost use Rattle.cob_move_names.specs.Values.{BreaksValues, NamesValues, conditions_of};
 
 use crate::candidate::{RecordEntry, list_tree};
 use crate::directory::Names;
-use crate::subscripts::read_subscripts;
+use crate::subscripts::{read_subscripts, subscript_of};
 use crate::valued::{ConditionNames, ValuedEntry, list_values};
 use arrayvec::ArrayVec;
 use cob_copybook_conditions::{ConditionName, Span};
 use cob_copybook_names::Bearer;
 use cob_layout::{Layout, Ref, records_are_sound};
-use cob_move_data::{Operand, Side};
-use cob_move_statements::{MoveRule, Reference};
+use cob_layout_places::{ItemPart, characters_of, entries_are_measured};
+use cob_limits::MAX_SUBSCRIPTS;
+use cob_move_data::{Operand, Side, kind_of_part};
+use cob_move_statements::{MoveRule, Reference, ReferencePart};
 use cob_source::Token;
 use std::alloc::{AllocError, Global};
 
@@ -42,11 +46,14 @@ pub struct NamedValues<'a> {
     pub more: &'a [Span],
 }
 
-/// An entry with its subscripts, if they are those of its tables.
-fn operand_of(named: &RecordEntry<'_>, written: &[Token]) -> Option<Operand>
-    ensures found { IfSome result (λ o. o ≡ entry_operand (listed_record_entry named.now)
-        (subscript_numbers (word_texts (lexemes written.now)))) }
-    ensures yes { IfSome result (λ o. AreSubscriptsOf
+/// The subscripts of an entry, if they are those of its tables.
+fn subscripts_of(
+    named: &RecordEntry<'_>,
+    written: &[Token],
+) -> Option<ArrayVec<u32, MAX_SUBSCRIPTS>>
+    ensures found { IfSome result (λ v. v.items
+        ≡ subscript_numbers (word_texts (lexemes written.now))) }
+    ensures yes { IfSome result (λ v. AreSubscriptsOf
         (listed_record_entry named.now).tables (word_texts (lexemes written.now))) }
     ensures no { IfNone result (AreSubscriptsOf
         (listed_record_entry named.now).tables (word_texts (lexemes written.now)) → ⊥) }
@@ -55,13 +62,78 @@ fn operand_of(named: &RecordEntry<'_>, written: &[Token]) -> Option<Operand>
     if !read_subscripts(named.tables.as_slice(), written, &mut subscripts) {
         return None;
     }
-    Some(Operand {
+    Some(subscripts)
+}
+
+/// How long a part is, where so many characters are left: as long as is written, or all of them.
+fn length_of(written: Option<&[u8]>, left: u32) -> Option<u32>
+    requires some { 0 < left }
+    ensures short { IfSome result (λ n. (0 < n) × (n ≤ left)) }
+    ensures found { (start characters : ℕ) → left ≡ characters + 1 - start → IfSome result
+        (λ n. n ≡ length_meant characters start (option_map (λ t. t.now) written)) }
+    ensures yes { IfSome result (λ _. IsLengthOf left (option_map (λ t. t.now) written)) }
+    ensures no { IfNone result (IsLengthOf left (option_map (λ t. t.now) written) → ⊥) }
+{
+    match written {
+        None => Some(left),
+        Some(text) => subscript_of(text, left),
+    }
+}
+
+/// The part that is meant of an element with so many characters, if it has it.
+fn part_within(characters: u32, written: &ReferencePart<'_>) -> Option<ItemPart>
+    requires short { characters ≤ longest_record }
+    ensures found { IfSome result (λ p. Some p ≡ part_meant characters
+        (Some (written_part written.now))) }
+    ensures short { IfSome result (λ p. (0 < p.length) × (p.length ≤ longest_record)) }
+    ensures yes { IfSome result (λ p. HasPart characters (Some (written_part written.now))) }
+    ensures no { IfNone result (HasPart characters (Some (written_part written.now)) → ⊥) }
+{
+    let start = subscript_of(written.start, characters)?;
+    let length = length_of(written.length, characters + 1 - start)?;
+    Some(ItemPart { start, length })
+}
+
+/// The part that is meant of an entry, if one is, and the entry has it.
+fn part_of(
+    named: &RecordEntry<'_>,
+    written: &Option<ReferencePart<'_>>,
+) -> Option<Option<ItemPart>>
+    ensures found { IfSome result (λ p. p ≡ part_meant (listed_record_entry named.now).characters
+        (option_map written_part written.now)) }
+    ensures short { IfSome result (λ o. IfSome o (λ p. (0 < p.length) × (p.length ≤ longest_record))) }
+    ensures yes { IfSome result (λ _. HasPart (listed_record_entry named.now).characters
+        (option_map written_part written.now)) }
+    ensures no { IfNone result (HasPart (listed_record_entry named.now).characters
+        (option_map written_part written.now) → ⊥) }
+{
+    match written {
+        None => Some(None),
+        Some(part) => {
+            let part = part_within(characters_of(named.entry), part)?;
+            Some(Some(part))
+        }
+    }
+}
+
+/// An entry with its subscripts, or a part of it.
+fn operand_of(
+    named: &RecordEntry<'_>,
+    subscripts: ArrayVec<u32, MAX_SUBSCRIPTS>,
+    part: Option<ItemPart>,
+) -> Operand
+    requires { IfSome part (λ p. (0 < p.length) × (p.length ≤ longest_record)) }
+    ensures entry { result.entry ≡ record { node = (listed_record_entry named.now).number; subscripts = subscripts; part = part } }
+    ensures kind { result.kind ≡ kind_of_part part (listed_record_entry named.now).kind }
+{
+    Operand {
         entry: Ref {
             node: named.entry.number,
             subscripts,
+            part,
         },
-        kind: named.entry.kind.clone(),
-    })
+        kind: kind_of_part(part, &named.entry.kind),
+    }
 }
 
 /// Puts the entries of a record behind those that are listed, and the condition-names of its copybook behind those.
@@ -126,6 +198,7 @@ impl<'a> Names<'a> {
     {
         // For what `listed` asks: the entries of a record description are numbered in order,
         records_are_sound();
+        entries_are_measured();
         // and both layouts are those of record descriptions.
         let _ = input.root();
         let _ = output.root();
@@ -154,8 +227,9 @@ impl<'a> Names<'a> {
     ///
     /// # Errors
     ///
-    /// `Unknown` where no entry of the two records has the name with these qualifiers, `Ambiguous` where several have, and `Subscripts` where
-    /// the subscripts aren't one for each table of the entry, of no more digits than a literal has, from 1 to its greatest number.
+    /// `Unknown` where no entry of the two records has the name with these qualifiers, `Ambiguous` where several have, `Subscripts` where
+    /// the subscripts aren't one for each table of the entry, of no more digits than a literal has, from 1 to its greatest number, and `Part` where the entry
+    /// hasn't the part that is meant.
     pub fn find(&self, reference: &Reference<'_>) -> Result<Named, MoveRule>
         // What is found is what the reference names.
         ensures found { IfOk result (λ n. NamesOperand
@@ -167,13 +241,16 @@ impl<'a> Names<'a> {
             rule (entries_named self.now) (written_reference reference.now)) }
     {
         let candidate = self.only_named(reference.name, reference.qualifiers)?;
-        match operand_of(&candidate.entry, reference.subscripts) {
-            Some(operand) => Ok(Named {
-                side: candidate.entry.side,
-                operand,
-            }),
-            None => Err(MoveRule::Subscripts),
-        }
+        let Some(subscripts) = subscripts_of(&candidate.entry, reference.subscripts) else {
+            return Err(MoveRule::Subscripts);
+        };
+        let Some(part) = part_of(&candidate.entry, &reference.part) else {
+            return Err(MoveRule::Part);
+        };
+        Ok(Named {
+            side: candidate.entry.side,
+            operand: operand_of(&candidate.entry, subscripts, part),
+        })
     }
 
     /// What a receiver's written reference names in the output record.
@@ -203,7 +280,8 @@ impl<'a> Names<'a> {
     ///
     /// # Errors
     ///
-    /// `Ambiguous` where it names several condition-names, or an entry too; `Subscripts` where its subscripts aren't those of the item's tables.
+    /// `Ambiguous` where it names several condition-names, or an entry too; `Subscripts` where its subscripts aren't those of the item's tables;
+    /// `Part` where a part is written.
     pub fn find_values(
         &self,
         reference: &Reference<'_>,
@@ -223,14 +301,18 @@ impl<'a> Names<'a> {
         let Some(valued) = named else {
             return Ok(None);
         };
-        match operand_of(&valued.entry.item, reference.subscripts) {
-            Some(operand) => Ok(Some(NamedValues {
-                side: valued.entry.item.side,
-                operand,
-                first: valued.entry.first,
-                more: valued.entry.more,
-            })),
-            None => Err(MoveRule::Subscripts),
+        let item = &valued.entry.item;
+        let Some(subscripts) = subscripts_of(item, reference.subscripts) else {
+            return Err(MoveRule::Subscripts);
+        };
+        if reference.part.is_some() {
+            return Err(MoveRule::Part);
         }
+        Ok(Some(NamedValues {
+            side: item.side,
+            operand: operand_of(item, subscripts, None),
+            first: valued.entry.first,
+            more: valued.entry.more,
+        }))
     }
 }

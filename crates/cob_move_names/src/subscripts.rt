@@ -41,7 +41,7 @@ fn number_within(text: &[u8], most: u32) -> Option<u32>
 }
 
 /// The number of a subscript of a table whose greatest number this is. A literal has no more digits than a number has, zeros in front counted.
-fn subscript_of(text: &[u8], most: u32) -> Option<u32>
+pub(crate) fn subscript_of(text: &[u8], most: u32) -> Option<u32>
     ensures found { IfSome result (λ n. IsSubscriptOf most text.now) }
     ensures value { IfSome result (λ n. n ≡ subscript_number text.now) }
     ensures none { IfNone result (IsSubscriptOf most text.now → ⊥) }

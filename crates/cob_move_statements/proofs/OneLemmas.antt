@@ -9,9 +9,10 @@ use Rattle.cob_copybook_clauses.specs.Reading.{NotFirstWord}
 use Rattle.cob_copybook_clauses.specs.Written.{WrittenValue, Word, Quoted, Figure, Repeated}
 use Rattle.cob_copybook_clauses.proofs.OneLemmas.{qualifiers_cut, constant_cut}
 use Rattle.cob_move_statements.specs.Written.{WrittenReference, WrittenSender, SentReference, SentConstant, WrittenAction, MoveTo, MoveCorresponding, WrittenStatement, word_texts}
-use Rattle.cob_move_statements.specs.Statements.{AreSubscripts, EndsReferences, FitsReference, FollowsStatements, IsAction, IsEndedStatement, IsHeading, IsNumeral, IsReference, IsStatement, IsWrittenSender, NoName, Several}
+use Rattle.cob_move_statements.specs.Statements.{AreSubscripts, EndsReferences, FitsReference, FitsSubscripts, FollowsStatements, IsAction, IsEndedStatement, IsHeading, IsNumeral, IsReference, IsStatement, IsWrittenSender, NoName, Several}
 use Rattle.cob_move_statements.specs.Laws.{OneListOfEnded, OneListOfStatements, OneReference}
 use Rattle.cob_move_statements.proofs.Runs.{IsRun, fits}
+use Rattle.cob_move_statements.proofs.PartLemmas.{never_fit, part_fits, part_not_of, part_one}
 use Rattle.cob_move_statements.proofs.ReferenceLemmas.{brackets, not_of, reference_split, same_reference, references_run}
 use Rattle.cob_move_statements.proofs.StatementLemmas.{to_fits, corresponding_split, move_split, same_move, never_both}
 use Rattle.cob_move_statements.proofs.ParagraphLemmas.{same_statement, ended_split, ends_fit, fits_no_stop, fits_ends, no_name, statements_run}
@@ -28,14 +29,14 @@ numerals_one (w ∷ n) (v ∷ m) a b p q f g e =
     let rest : n ≡ m = r.0 in
     (cc, r.1)
 
-subscripts_one : (s t : List (List ℕ)) (n m a b : List Lexeme) → AreSubscripts s n → AreSubscripts t m → NotFirstWord term.OpenBracket a → NotFirstWord term.OpenBracket b → n ++ a ≡ m ++ b → (s ≡ t) × (a ≡ b)
+subscripts_one : (s t : List (List ℕ)) (n m a b : List Lexeme) → AreSubscripts s n → AreSubscripts t m → FitsSubscripts a → FitsSubscripts b → n ++ a ≡ m ++ b → (s ≡ t) × (a ≡ b)
 subscripts_one [] [] n m a b p q f g e = (refl, sym (ap (λ (x : List Lexeme). x ++ a) p) ∙ e ∙ ap (λ (x : List Lexeme). x ++ b) q)
-subscripts_one [] (t ∷ ts) n m a b p (o, c, ns, is, same, cut) f g e =
-    let it : a ≡ o ∷ ((ns ++ c ∷ []) ++ b) = sym (ap (λ (x : List Lexeme). x ++ a) p) ∙ e ∙ ap (λ (x : List Lexeme). x ++ b) cut in
-    absurd (subst (NotFirstWord term.OpenBracket) it f is.opens)
-subscripts_one (s ∷ ss) [] n m a b (o, c, ns, is, same, cut) q f g e =
-    let it : b ≡ o ∷ ((ns ++ c ∷ []) ++ a) = sym (ap (λ (x : List Lexeme). x ++ b) q) ∙ sym e ∙ ap (λ (x : List Lexeme). x ++ a) cut in
-    absurd (subst (NotFirstWord term.OpenBracket) it g is.opens)
+subscripts_one [] (t ∷ ts) n m a b p q f g e =
+    let it : a ≡ m ++ b = sym (ap (λ (x : List Lexeme). x ++ a) p) ∙ e in
+    absurd (never_fit t ts m b q (subst FitsSubscripts it f))
+subscripts_one (s ∷ ss) [] n m a b p q f g e =
+    let it : b ≡ n ++ a = sym (ap (λ (x : List Lexeme). x ++ b) q) ∙ sym e in
+    absurd (never_fit s ss n a p (subst FitsSubscripts it g))
 subscripts_one (s ∷ ss) (t ∷ ts) n m a b (o, c, ns, is, same, cut) (u, d, ms, si, emas, tuc) f g e =
     let it : o ∷ (ns ++ c ∷ a) ≡ u ∷ (ms ++ d ∷ b) =
     brackets o c ns a ∙ sym (ap (λ (x : List Lexeme). x ++ a) cut) ∙ e ∙ ap (λ (x : List Lexeme). x ++ b) tuc ∙ sym (brackets u d ms b) in
@@ -48,14 +49,16 @@ subscripts_one (s ∷ ss) (t ∷ ts) n m a b (o, c, ns, is, same, cut) (u, d, ms
 
 reference_one : (x y : WrittenReference) (n m a b : List Lexeme) → IsReference x n → IsReference y m → FitsReference a → FitsReference b → n ++ a ≡ m ++ b → (x ≡ y) × (a ≡ b)
 reference_one x y n m a b p q f g e =
-    let it : p.named ∷ (p.behind ++ (p.brackets ++ a)) ≡ q.named ∷ (q.behind ++ (q.brackets ++ b)) =
-    sym (reference_split p.named (n ++ a) n p.behind p.brackets a refl p.words) ∙ e ∙ reference_split q.named (m ++ b) m q.behind q.brackets b refl q.words in
+    let it : p.named ∷ (p.behind ++ (p.brackets ++ (p.end ++ a))) ≡ q.named ∷ (q.behind ++ (q.brackets ++ (q.end ++ b))) =
+    sym (reference_split p.named (n ++ a) n p.behind p.brackets p.end a refl p.words) ∙ e ∙ reference_split q.named (m ++ b) m q.behind q.brackets q.end b refl q.words in
     let named : p.named ≡ q.named = cc in
-    let rest : p.behind ++ (p.brackets ++ a) ≡ q.behind ++ (q.brackets ++ b) = cc in
-    let quals = qualifiers_cut p.behind q.behind (p.brackets ++ a) (q.brackets ++ b) p.qualified q.qualified
-    (not_of x.subscripts p.brackets a p.subscripted f.0) (not_of y.subscripts q.brackets b q.subscripted g.0) rest in
-    let subs = subscripts_one x.subscripts y.subscripts p.brackets q.brackets a b p.subscripted q.subscripted f.1 g.1 quals.1 in
-    (same_reference y x.name x.qualifiers x.subscripts (p.name ∙ ap (λ (w : Lexeme). w.text) named ∙ sym q.name) (p.qualifiers ∙ quals.0 ∙ sym q.qualifiers) subs.0, subs.1)
+    let rest : p.behind ++ (p.brackets ++ (p.end ++ a)) ≡ q.behind ++ (q.brackets ++ (q.end ++ b)) = cc in
+    let quals = qualifiers_cut p.behind q.behind (p.brackets ++ (p.end ++ a)) (q.brackets ++ (q.end ++ b)) p.qualified q.qualified
+    (not_of x.subscripts p.brackets (p.end ++ a) p.subscripted (part_not_of x.part p.end a p.parted f.0)) (not_of y.subscripts q.brackets (q.end ++ b) q.subscripted (part_not_of y.part q.end b q.parted g.0)) rest in
+    let subs = subscripts_one x.subscripts y.subscripts p.brackets q.brackets (p.end ++ a) (q.end ++ b) p.subscripted q.subscripted
+    (part_fits x.part p.end a p.parted f.1) (part_fits y.part q.end b q.parted g.1) quals.1 in
+    let parts = part_one x.part y.part p.end q.end a b p.parted q.parted f.1 g.1 subs.1 in
+    (same_reference y x.name x.qualifiers x.subscripts x.part (p.name ∙ ap (λ (w : Lexeme). w.text) named ∙ sym q.name) (p.qualifiers ∙ quals.0 ∙ sym q.qualifiers) subs.0 parts.0, parts.1)
 
 pub one_reference : OneReference
 one_reference ws a b p q = (reference_one a b ws ws [] [] p q (tt, tt) (tt, tt) refl).0
@@ -91,7 +94,7 @@ no_both : (r : WrittenReference) (c : WrittenValue) (n m a b : List Lexeme) → 
 no_both r c n m a b p is none e =
     let (w, tail, f) = constant_head c m is in
     let never : IsNameWord w → ⊥ = subst NoName f none in
-    let it : p.named ∷ ((p.behind ++ p.brackets) ++ a) ≡ w ∷ (tail ++ b) = sym (ap (λ (x : List Lexeme). x ++ a) p.words) ∙ e ∙ ap (λ (x : List Lexeme). x ++ b) f in
+    let it : p.named ∷ ((p.behind ++ (p.brackets ++ p.end)) ++ a) ≡ w ∷ (tail ++ b) = sym (ap (λ (x : List Lexeme). x ++ a) p.words) ∙ e ∙ ap (λ (x : List Lexeme). x ++ b) f in
     let same : p.named ≡ w = cc in
     never (subst IsNameWord same p.is)
 

@@ -44,6 +44,10 @@ pub written_some : (rs : List Reference) (b : Bool) → b ≡ (length rs == 0) �
 written_some [] b e is = let never : true ≡ false = sym e ∙ is in absurd cc
 written_some (r ∷ rs) b e is = omega arith
 
+pub written_none : (rs : List Reference) (b : Bool) → b ≡ (length rs == 0) → b ≡ true → (us : List WrittenReference) → written_references rs ≡ us → 0 < length us → ⊥
+written_none [] b e is us same some = let none : length us ≡ 0 = ap length (sym same) in absurd (omega (arith, none, some))
+written_none (r ∷ rs) b e is us same some = absurd (grind (arith, e, is))
+
 -- ---- CORRESPONDING comes first in no sender
 
 other_first : (t : WordClass) (w : Lexeme) (ws behind more : List Lexeme) → word_class w ≡ t → t ≢ term.Corresponding → ws ≡ w ∷ behind → NotFirstWord term.Corresponding (ws ++ more)

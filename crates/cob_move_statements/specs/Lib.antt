@@ -3,3 +3,4 @@ pub mod Written
 pub mod Statements
 pub mod Reading
 pub mod Laws
+pub mod Whole

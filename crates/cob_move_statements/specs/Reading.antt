@@ -1,5 +1,5 @@
 -- What the readers of statements say of what they answer, and of the words that they leave.
-use Rattle.std.specs.Prelude.{◌≡◌, ◌⊎◌, List, ◌∷◌, ◌++◌, Option, Result, IfErr, IfOk, IsSomeAnd}
+use Rattle.std.specs.Prelude.{◌≡◌, ◌⊎◌, ℕ, List, ◌∷◌, ◌++◌, Option, Result, IfErr, IfOk, IsSomeAnd, option_map}
 use denote.Ref.{Bor}
 use Rattle.cob_source.specs.Tokens.{Lexeme, lexemes}
 use Rattle.cob_source.specs.declared.token.Token.{Token}
@@ -10,8 +10,8 @@ use Rattle.cob_move_statements.specs.declared.parts.Action.{Action}
 use Rattle.cob_move_statements.specs.declared.parts.Reference.{Reference}
 use Rattle.cob_move_statements.specs.declared.fault.MoveFault.{MoveFault}
 use Rattle.cob_move_statements.specs.declared.fault.MoveRule.TheVariants as rule
-use Rattle.cob_move_statements.specs.Written.{MoveCorresponding, MoveTo, WrittenReference, WrittenSender, WrittenStatement, written_action, written_reference}
-use Rattle.cob_move_statements.specs.Statements.{EndsReferences, IsAction, IsBracketed}
+use Rattle.cob_move_statements.specs.Written.{MoveCorresponding, MoveTo, WrittenPart, WrittenReference, WrittenSender, WrittenStatement, written_action, written_reference}
+use Rattle.cob_move_statements.specs.Statements.{EndsReferences, IsAction, IsBracketed, IsBracketedPart}
 
 -- words of a kind and TO stand in front, before these
 abbrev pub StandBeforeTo : (List Lexeme → Type 0) → List Lexeme → List Lexeme → Type 0
@@ -62,3 +62,11 @@ AnswersMoves answer words = (s : WrittenSender) (rs : List WrittenReference)
 abbrev pub AnswersBracketed : Option (Bor (List Token) × Bor (List Token)) → List Lexeme → Type 0
 AnswersBracketed answer words = (before after : Lexeme) (ns more : List Lexeme) → IsBracketed before after ns
     → words ≡ before ∷ (ns ++ after ∷ more) → Answers (λ r. lexemes r.now) answer ns more
+
+-- a reader answers how long a part is, and leaves these words
+abbrev pub AnswersLength : Option (Bor (List ℕ)) × Bor (List Token) → Option (List ℕ) → List Lexeme → Type 0
+AnswersLength answer x more = (option_map (λ t. t.now) answer.0 ≡ x) × (lexemes answer.1.now ≡ more)
+
+-- however the words are cut into a part in brackets and words behind it, this is so of those behind it
+abbrev pub ReadsPart : WrittenPart → List Lexeme → (List Lexeme → Type 0) → Type 0
+ReadsPart x words Holds = (ws more : List Lexeme) → IsBracketedPart x ws → words ≡ ws ++ more → Holds more

@@ -1,18 +1,18 @@
 -- The words of a paragraph.
 use Rattle.cob_move_loops.specs.Words.{IsPeriod, NoPeriod, first_line}
-use Rattle.std.specs.Prelude.{◌≡◌, ◌⊎◌, ℕ, ◌<◌, List, [], ◌∷◌, ◌++◌, length}
+use Rattle.std.specs.Prelude.{◌≡◌, ◌⊎◌, ℕ, ◌<◌, List, [], ◌∷◌, ◌++◌, length, codes, Option, Some, None}
 use Rattle.std.specs.List.{AllByRecursion}
 use Rattle.cob_decimal.specs.Literals.{AreDigits, Literal}
 use Rattle.cob_source.specs.Tokens.{Lexeme}
 use Rattle.cob_copybook_clauses.specs.declared.term.WordClass.TheVariants as term
 use Rattle.cob_copybook_clauses.specs.Terms.{word_class}
-use Rattle.cob_copybook_clauses.specs.Clauses.{AreQualifiers, IsConstant, IsNameWord}
+use Rattle.cob_copybook_clauses.specs.Clauses.{AreQualifiers, IsConstant, IsFree, IsNameWord}
 use Rattle.cob_copybook_clauses.specs.Reading.{NotFirstWord}
 use Rattle.cob_copybook_clauses.specs.Written.{WrittenValue, Word, Quoted, Figure, Repeated, names_behind}
 use Rattle.cob_copybook_entries.specs.Parts.{IsLiteralOf}
 use Rattle.cob_move_statements.specs.declared.fault.MoveRule.{MoveRule}
 use Rattle.cob_move_statements.specs.declared.fault.MoveRule.TheVariants as rule
-use Rattle.cob_move_statements.specs.Written.{word_texts, WrittenReference, WrittenSender, SentReference, SentConstant, WrittenAction, MoveTo, MoveCorresponding, WrittenStatement}
+use Rattle.cob_move_statements.specs.Written.{word_texts, WrittenPart, WrittenReference, WrittenSender, SentReference, SentConstant, WrittenAction, MoveTo, MoveCorresponding, WrittenStatement}
 
 -- pieces one behind another, each of which is so
 abbrev pub Several : {V : Type 0} → (V → List Lexeme → Type 0) → List V → List Lexeme → Type 0
@@ -37,17 +37,48 @@ abbrev pub AreSubscripts : List (List ℕ) → List Lexeme → Type 0
 AreSubscripts [] ws = ws ≡ []
 AreSubscripts (s ∷ more) ws = (before after : Lexeme) × (numbers : List Lexeme) × IsBracketed before after numbers × (s ∷ more ≡ word_texts numbers) × (ws ≡ before ∷ (numbers ++ after ∷ []))
 
--- a reference: a name, qualifiers by OF or IN, and subscripts
+-- a colon
+abbrev pub IsColon : Lexeme → Type 0
+IsColon w = IsFree (codes ":") w
+
+-- how long a part is: a number, or nothing
+abbrev pub IsPartLength : Option (List ℕ) → List Lexeme → Type 0
+IsPartLength None ws = ws ≡ []
+IsPartLength (Some text) ws = (number : Lexeme) × IsNumeral number × (text ≡ number.text) × (ws ≡ number ∷ [])
+
+-- a part in brackets: the number where it starts, a colon, and how long it is
+pub record IsBracketedPart (p : WrittenPart) (ws : List Lexeme) : Type 0 where
+  pub open_bracket : Lexeme
+  pub first : Lexeme
+  pub colon : Lexeme
+  pub long : List Lexeme
+  pub close_bracket : Lexeme
+  pub opens : word_class open_bracket ≡ term.OpenBracket
+  pub starts : IsNumeral first
+  pub start : p.start ≡ first.text
+  pub parted : IsColon colon
+  pub lasts : IsPartLength p.length long
+  pub closes : word_class close_bracket ≡ term.CloseBracket
+  pub words : ws ≡ open_bracket ∷ first ∷ colon ∷ (long ++ close_bracket ∷ [])
+
+-- a part in brackets, or nothing
+abbrev pub IsPart : Option WrittenPart → List Lexeme → Type 0
+IsPart None ws = ws ≡ []
+IsPart (Some p) ws = IsBracketedPart p ws
+
+-- a reference: a name, qualifiers by OF or IN, subscripts, and a part of the item
 pub record IsReference (r : WrittenReference) (ws : List Lexeme) : Type 0 where
   pub named : Lexeme
   pub behind : List Lexeme
   pub brackets : List Lexeme
+  pub end : List Lexeme
   pub is : IsNameWord named
   pub name : r.name ≡ named.text
   pub qualified : AreQualifiers behind
   pub qualifiers : r.qualifiers ≡ names_behind behind
   pub subscripted : AreSubscripts r.subscripts brackets
-  pub words : ws ≡ named ∷ (behind ++ brackets)
+  pub parted : IsPart r.part end
+  pub words : ws ≡ named ∷ (behind ++ (brackets ++ end))
 
 -- no name comes first
 abbrev pub NoName : List Lexeme → Type 0
@@ -58,6 +89,14 @@ NoName (w ∷ ws) = IsNameWord w → ⊥
 abbrev pub NameFirst : List Lexeme → Type 0
 NameFirst [] = ⊥
 NameFirst (w ∷ ws) = IsNameWord w
+
+-- a part in brackets comes first
+abbrev pub PartFirst : List Lexeme → Type 0
+PartFirst more = (p : WrittenPart) × (ws rest : List Lexeme) × IsBracketedPart p ws × (more ≡ ws ++ rest)
+
+-- what may follow subscripts: a part in brackets, or no open bracket
+abbrev pub FitsSubscripts : List Lexeme → Type 0
+FitsSubscripts more = PartFirst more ⊎ NotFirstWord term.OpenBracket more
 
 -- what may follow a reference: neither OF or IN nor an open bracket
 abbrev pub FitsReference : List Lexeme → Type 0

@@ -1,19 +1,26 @@
 -- Statements as they are written, without where their texts lie in memory.
-use Rattle.std.specs.Prelude.{ℕ, List, map}
+use Rattle.std.specs.Prelude.{ℕ, List, map, Option, option_map}
 use Rattle.cob_source.specs.Tokens.{Lexeme, lexemes}
 use Rattle.cob_copybook_clauses.specs.Written.{WrittenValue, written_value, names_behind}
 use Rattle.cob_move_statements.specs.declared.parts.Reference.{Reference}
+use Rattle.cob_move_statements.specs.declared.parts.ReferencePart.{ReferencePart}
 use Rattle.cob_move_statements.specs.declared.parts.StatementSender.{StatementSender}
 use Rattle.cob_move_statements.specs.declared.parts.StatementSender.TheVariants as sender
 use Rattle.cob_move_statements.specs.declared.parts.Action.{Action}
 use Rattle.cob_move_statements.specs.declared.parts.Action.TheVariants as action
 use Rattle.cob_move_statements.specs.declared.parts.Statement.{Statement}
 
--- a name with its qualifiers, the nearest first, and its subscripts as they are written
+-- a part of an item as it is written: the digits of where it starts, and those of how long it is, if they are there
+pub record WrittenPart : Type 0 where
+  pub start : List ℕ
+  pub length : Option (List ℕ)
+
+-- a name with its qualifiers, the nearest first, its subscripts as they are written, and the part of the item that is meant, if it isn't all of it
 pub record WrittenReference : Type 0 where
   pub name : List ℕ
   pub qualifiers : List (List ℕ)
   pub subscripts : List (List ℕ)
+  pub part : Option WrittenPart
 
 -- what is moved: an entry, or a constant
 pub data WrittenSender : Type 0 where
@@ -34,9 +41,18 @@ pub record WrittenStatement : Type 0 where
 abbrev pub word_texts : List Lexeme → List (List ℕ)
 word_texts ws = map (λ w. w.text) ws
 
--- a reference as it is written, without where its texts lie in memory
+-- a part of an item as it is written, without where its texts lie in memory
+abbrev pub written_part : ReferencePart → WrittenPart
+written_part p = record { start = p.start.now; length = option_map (λ t. t.now) p.length }
+
+-- a reference, likewise
 abbrev pub written_reference : Reference → WrittenReference
-written_reference r = record { name = r.name.now; qualifiers = names_behind (lexemes r.qualifiers.now); subscripts = word_texts (lexemes r.subscripts.now) }
+written_reference r = record {
+  name = r.name.now;
+  qualifiers = names_behind (lexemes r.qualifiers.now);
+  subscripts = word_texts (lexemes r.subscripts.now);
+  part = option_map written_part r.part;
+}
 
 -- references, likewise
 abbrev pub written_references : List Reference → List WrittenReference

@@ -41,6 +41,8 @@ pub enum MoveRule {
     TooMany,
     /// M13: operands that cannot be compared or tested.
     NotComparable,
+    /// M15: a part of an item that has none: a number that is not DISPLAY, a group that varies; or one that starts before the item, is empty, or ends behind it.
+    Part,
     /// M19: memory was refused.
     Memory,
 }
@@ -62,6 +64,7 @@ impl fmt::Display for MoveRule {
             MoveRule::Counter => write!(f, "M11"),
             MoveRule::TooMany => write!(f, "M12"),
             MoveRule::NotComparable => write!(f, "M13"),
+            MoveRule::Part => write!(f, "M15"),
             MoveRule::Memory => write!(f, "M19"),
         }
     }

@@ -1,4 +1,5 @@
 ghost use Rattle.cob_move_statements.specs.Laws.{OneListOfEnded, OneListOfStatements, OneReference};
+ghost use Rattle.cob_move_statements.specs.Whole.{WholeReferences};
 
 /// The words of a paragraph say its statements in one way.
 pub fn one_list_of_statements()
@@ -13,4 +14,9 @@ pub fn one_list_of_ended()
 /// Words are one reference at most.
 pub fn one_reference()
     ensures { OneReference }
+{}
+
+/// Without a part a reference is what a reference was before there were parts.
+pub fn whole_references()
+    ensures { WholeReferences }
 {}

@@ -7,6 +7,7 @@ ghost use Rattle.cob_move_statements.specs.Written.{WrittenReference, written_re
 ghost use Rattle.cob_move_statements.specs.Reading.{AnswersReferences};
 ghost use Rattle.cob_move_statements.specs.Statements.{EndsReferences, IsReference, Several};
 
+use crate::item_parts::part_at;
 use crate::parts::Reference;
 use crate::subscripts::subscripts_at;
 use cob_copybook_clauses::{is_name_word, qualifiers_at};
@@ -36,12 +37,14 @@ pub fn reference_at(words: &[Token]) -> Option<(Reference<'_>, &[Token])>
 {
     let (name, named) = name_at(words)?;
     let (qualifiers, rest) = qualifiers_at(named);
-    let (subscripts, more) = subscripts_at(rest)?;
+    let (subscripts, end) = subscripts_at(rest)?;
+    let (part, more) = part_at(end)?;
     Some((
         Reference {
             name,
             qualifiers,
             subscripts,
+            part,
         },
         more,
     ))

@@ -1,19 +1,20 @@
-ghost use Rattle.std.specs.Prelude.{◌≡◌, ◌≢◌, ◌<◌, ◌↔◌, List, ℕ, ◌∷◌, ◌++◌, [], IfSome, IsSomeAnd, IsTrue};
+ghost use Rattle.std.specs.Prelude.{◌≡◌, ◌≢◌, ◌<◌, ◌↔◌, List, ℕ, ◌∷◌, ◌++◌, [], IfSome, IsFalse, IsSomeAnd, IsTrue};
 ghost use Rattle.std.specs.List.{AllByRecursion};
 ghost use Rattle.cob_decimal.specs.Literals.{AreDigits};
 ghost use Rattle.cob_source.specs.Tokens.{Lexeme, lexeme, lexemes};
 ghost use Rattle.cob_copybook_clauses.specs.declared.term.WordClass.TheVariants as term;
 ghost use Rattle.cob_move_statements.specs.Written.{word_texts};
-ghost use Rattle.cob_move_statements.specs.Statements.{AreSubscripts, IsNumeral};
+ghost use Rattle.cob_move_statements.specs.Statements.{AreSubscripts, FitsSubscripts, IsNumeral};
 ghost use Rattle.cob_copybook_clauses.specs.Reading.{Answers, EachCut, NotFirstWord, StandInFront};
 ghost use Rattle.cob_move_statements.specs.Reading.{AnswersBracketed, BracketsInFront, Splits};
 
+use crate::item_parts::begins_with_part;
 use cob_copybook_clauses::{WordClass, behind, front, is_term};
 use cob_decimal::are_digits;
 use cob_source::Token;
 
 /// Whether a word is of digits, one at least.
-fn is_numeral(token: &Token) -> bool
+pub(crate) fn is_numeral(token: &Token) -> bool
     ensures { IsTrue result ↔ IsNumeral (lexeme token.now) }
 {
     let text = token.text.as_slice();
@@ -63,15 +64,27 @@ fn bracketed_at(words: &[Token]) -> Option<(&[Token], &[Token])>
     Some((numbers, more))
 }
 
+/// Whether subscripts in brackets come first, and no part of an item.
+fn begins_with_subscripts(words: &[Token]) -> bool
+    ensures yes { IsTrue result → FitsSubscripts (lexemes words.now) → ⊥ }
+    ensures no { IsFalse result → FitsSubscripts (lexemes words.now) }
+{
+    match words.split_first() {
+        Some((first, _)) if is_term(first, WordClass::OpenBracket) => !begins_with_part(words),
+        _ => false,
+    }
+}
+
 /// The subscripts in front, or none, and what is behind them.
 pub fn subscripts_at(words: &[Token]) -> Option<(&[Token], &[Token])>
     ensures found { IfSome result (λ r. StandInFront
         (AreSubscripts (word_texts (lexemes r.0.now))) (lexemes words.now) (lexemes r.1.now)) }
-    ensures only { (ts : List (List ℕ)) → EachCut (AreSubscripts ts) (NotFirstWord term.OpenBracket)
+    ensures only { (ts : List (List ℕ)) → EachCut (AreSubscripts ts) FitsSubscripts
         (lexemes words.now) (Answers (λ r. word_texts (lexemes r.now)) result ts) }
 {
-    match words.split_first() {
-        Some((first, _)) if is_term(first, WordClass::OpenBracket) => bracketed_at(words),
-        _ => Some((&words[..0], words)),
+    if begins_with_subscripts(words) {
+        bracketed_at(words)
+    } else {
+        Some((&words[..0], words))
     }
 }

@@ -7,3 +7,4 @@ pub mod Asked
 pub mod Compared
 pub mod Counters
 pub mod Laws
+pub mod Known

@@ -89,7 +89,7 @@ fn entry_compared(
         (SentReference (written_reference reference.now))) }
 {
     let named = entries.named(reference)?;
-    let kind = entries.kind(named.side, &named.entry).clone();
+    let kind = entries.kind(named.side, &named.entry).get().clone();
     let number = asked.len();
     asked.push(named)?;
     Ok(Compared::Entry { number, kind })

@@ -13,8 +13,8 @@ ghost use Rattle.cob_move_tests.specs.Entries.{AllMayBeNamed, NamesAmong, nameab
 use cob_copybook_conditions::Span;
 use cob_copybook_tree::Kind;
 use cob_layout::{Layout, records_are_sound};
-use cob_layout_places::Ref;
-use cob_move_data::Side;
+use cob_layout_places::{Ref, characters_are_few};
+use cob_move_data::{OperandKind, Side};
 use cob_move_names::{Names, items_are_operands, named_are_operands};
 use cob_move_statements::{MoveRule, Reference};
 
@@ -52,18 +52,20 @@ impl<'a> Entries<'_, 'a> {
         }
     }
 
-    /// What an entry of a side's record describes.
-    pub fn kind(&self, side: Side, entry: &Ref) -> &Kind
+    /// What an entry of a side's record describes, or an item of the characters of a part of it.
+    pub fn kind(&self, side: Side, entry: &Ref) -> OperandKind<'_>
         requires operand { IsOperand (record_of (records_of self.now) side)
             (operand_in (record_of (records_of self.now) side) entry.now) }
-        ensures { result.now ≡ (operand_in (record_of (records_of self.now) side) entry.now).kind }
+        ensures { result ≡ (operand_in (record_of (records_of self.now) side) entry.now).kind }
     {
         // For what `kind` of a layout asks: a record description is sound, and has an entry for each operand.
         records_are_sound();
         let layout = self.layout(side);
         // The layout is that of a record description.
         let _ = layout.greatest();
-        layout.kind(entry.node)
+        // For what a part asks: it has no more characters than the longest record.
+        characters_are_few();
+        OperandKind::new(entry.part, layout.kind(entry.node))
     }
 
     /// What a written reference names.

@@ -44,5 +44,5 @@ pub use conditions::{both, condition_of, either, opposite_if};
 pub use counters::has_no_counter;
 pub use entries::{Entries, NamedEntry, ValuedItem};
 pub use laws::{conditions_break_no_rule, one_condition_of};
-pub use senders::{kind_of_sender, sender_of};
+pub use senders::{KnownSender, known_sender, sender_of};
 pub use spans::{between, compares};

@@ -113,7 +113,8 @@ pub(crate) fn may_have(entries: &Entries<'_, '_>, named: &NamedEntry, quality: Q
     ensures { result ≡ may_have (record_of (records_of entries.now) named.now.side) quality
         (operand_in (record_of (records_of entries.now) named.now.side) named.now.entry) }
 {
-    let kind = entries.kind(named.side, &named.entry);
+    let own = entries.kind(named.side, &named.entry);
+    let kind = own.get();
     match quality {
         Quality::Class(class) => may_be_of_class(entries, named, kind, class),
         Quality::Sign(_) => is_number_kind(kind),

@@ -5,6 +5,7 @@ ghost use Rattle.cob_copybook_clauses.specs.Written.{written_value};
 ghost use Rattle.cob_copybook_entry.specs.Described.{plain_value};
 ghost use Rattle.cob_copybook_entries.specs.Meaning.{IsConstantOf};
 ghost use Rattle.cob_move_tests.specs.Entries.{AllMayBeNamed, IsSenderAmong, records_of};
+ghost use Rattle.cob_move_tests.specs.Known.{known_sender};
 ghost use Rattle.cob_move_names.specs.Senders.{BreaksSender, BreaksSentConstant, IsSenderOf, kind_of_sender};
 ghost use Rattle.cob_move_receive.specs.Table.{sender_kind};
 ghost use Rattle.cob_move_data.specs.Moves.{IsSender, sender};
@@ -15,7 +16,7 @@ use crate::entries::Entries;
 use cob_copybook_clauses::ValueClause;
 use cob_copybook_entries::value_of;
 use cob_copybook_entry::{BookRule, Value};
-use cob_move_data::Sender;
+use cob_move_data::{OperandKind, Sender};
 use cob_move_receive::SenderKind;
 use cob_move_statements::{MoveRule, Reference, StatementSender};
 
@@ -82,13 +83,34 @@ pub fn sender_of(
     }
 }
 
-/// What the table of categories asks of a sender.
-pub fn kind_of_sender<'a>(entries: &'a Entries<'_, '_>, from: &'a Sender) -> SenderKind<'a>
+/// What is known of a sender before a record comes: what an entry or a part of it describes, or a constant.
+#[derive(Drop)]
+pub enum KnownSender<'a> {
+    /// An entry, or a part of it.
+    Entry(OperandKind<'a>),
+    /// A literal, or a figurative constant.
+    Constant(&'a Value),
+}
+
+impl KnownSender<'_> {
+    /// What the table of categories asks of it.
+    pub fn get(&self) -> SenderKind<'_>
+        ensures { sender_kind result ≡ known_sender self.now }
+    {
+        match self {
+            KnownSender::Entry(kind) => SenderKind::Entry(kind.get()),
+            KnownSender::Constant(value) => SenderKind::Constant(value),
+        }
+    }
+}
+
+/// What is known of a sender before a record comes.
+pub fn known_sender<'a>(entries: &'a Entries<'_, '_>, from: &'a Sender) -> KnownSender<'a>
     requires sender { IsSender (records_of entries.now) (sender (records_of entries.now) from.now) }
-    ensures { sender_kind result ≡ kind_of_sender (sender (records_of entries.now) from.now) }
+    ensures { known_sender result ≡ kind_of_sender (sender (records_of entries.now) from.now) }
 {
     match from {
-        Sender::Entry { side, entry } => SenderKind::Entry(entries.kind(*side, entry)),
-        Sender::Constant(value) => SenderKind::Constant(value),
+        Sender::Entry { side, entry } => KnownSender::Entry(entries.kind(*side, entry)),
+        Sender::Constant(value) => KnownSender::Constant(value),
     }
 }

@@ -10,3 +10,4 @@ pub mod Found
 pub mod Parts
 pub mod OnePicture
 pub mod RunLaws
+pub mod CharactersPicture

@@ -9,4 +9,5 @@ pub mod Parted
 pub mod Categories
 pub mod Pictures
 pub mod Measures
+pub mod Characters
 pub mod Laws

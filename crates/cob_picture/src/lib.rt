@@ -1,7 +1,7 @@
 //! Pictures of COBOL items, as a PICTURE clause gives them (ANSI X3.23-1985, the PICTURE clause).
 //!
 //! A picture describes an elementary item: what kind it is, how many bytes it takes, and for a number its digits, its scale and
-//! whether it has a sign. `Picture::read` reads the text of a PICTURE clause. Contracts see a picture as its category and its list
+//! whether it has a sign. `Picture::read` reads the text of a PICTURE clause, and `Picture::of_characters` makes that of so many characters. Contracts see a picture as its category and its list
 //! of positions, each with a symbol and a role (`specs/Positions.antt`); `size`, `digits`, `scale` and `signed` are counts over
 //! that list (`specs/Counts.antt`).
 //!
@@ -17,7 +17,7 @@
 //!
 //! # Where it is proved
 //!
-//! The clauses `found`, `only`, `fault` of `Picture::read` and those of its readers; the laws of `cob_picture`.
+//! The clauses `found`, `only`, `fault` of `Picture::read`, those of its readers and of `Picture::of_characters`; the laws of `cob_picture`.
 #![tactic(auto)]
 
 pub mod category;

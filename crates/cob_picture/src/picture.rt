@@ -4,6 +4,7 @@ ghost use Rattle.cob_picture.specs.Positions.{PlainPicture, written_out, positio
 ghost use Rattle.cob_picture.specs.Runs.{ArePositive};
 ghost use Rattle.cob_picture.specs.Counts.{size, digits, digits_before, scale, signed};
 ghost use Rattle.cob_picture.specs.Pictures.{IsPictureOf, IsPicture, BreaksPictureRule};
+ghost use Rattle.cob_picture.specs.Characters.{picture_of_characters};
 ghost use Rattle.cob_picture.specs.Measures.{IsKept};
 ghost use Rattle.cob_picture.specs.declared.category.Category.{Category};
 
@@ -12,7 +13,7 @@ use crate::fault::PictureFault;
 use crate::judge::category_and_counts;
 use crate::position::{Position, positions_of};
 use crate::reading::runs_of;
-use crate::symbol::Run;
+use crate::symbol::{Run, Symbol};
 use arrayvec::ArrayVec;
 use cob_limits::MAX_PICTURE_TEXT;
 use std::marker::Model;
@@ -63,6 +64,27 @@ impl Picture {
             signed: counts.signed,
             runs,
         })
+    }
+
+    /// The picture X(n): so many characters.
+    pub fn of_characters(count: u16) -> Picture
+        requires some { 0 < count }
+        requires few { count ≤ longest_record }
+        ensures { result ≡ picture_of_characters count }
+    {
+        let mut runs = ArrayVec::new();
+        runs.push(Run {
+            symbol: Symbol::X,
+            count,
+        });
+        Picture {
+            category: Category::Alphanumeric,
+            size: count,
+            digits: 0,
+            scale: 0,
+            signed: false,
+            runs,
+        }
     }
 
     /// What kind of item it describes.

@@ -160,6 +160,7 @@ pub(crate) fn add_items<'a>(
         let mut reference = Ref {
             node: item.number,
             subscripts: ArrayVec::new(),
+            part: None,
         };
         add_elements(
             left,

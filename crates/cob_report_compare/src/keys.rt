@@ -190,6 +190,7 @@ fn key_place(compared: ComparedRecord, key: &ListedItem) -> Place
     let reference = Ref {
         node: key.number,
         subscripts: ArrayVec::new(),
+        part: None,
     };
     place_of(compared, key, &reference)
 }

@@ -78,11 +78,8 @@ fn receive_one(
     };
     let start = place.offset as usize;
     let end = start + place.length as usize;
-    if receive(
-        &given.sent,
-        entry_kind(layout, entry),
-        &mut output[start..end],
-    ) {
+    let kind = entry_kind(layout, entry);
+    if receive(&given.sent, kind.get(), &mut output[start..end]) {
         Ok(place)
     } else {
         Err(value_lack(given))

@@ -66,9 +66,10 @@ fn walk_from_input<W: Watcher>(
         Ok(place) => place,
         Err(stop) => return Err(sender_stop(parts, stop)),
     };
+    let kind = entry_kind(layouts.input, entry);
     let given = Given {
         sent: Sent::Entry {
-            kind: entry_kind(layouts.input, entry),
+            kind: kind.get(),
             bytes: field(input, place),
             reading: layouts.reading,
         },
@@ -116,9 +117,10 @@ fn walk_within_output<W: Watcher>(
     let sent = field(output, place);
     let count = sent.len();
     keep_bytes(sent, room.content.as_mut_slice());
+    let kind = entry_kind(layouts.output, entry);
     let given = Given {
         sent: Sent::Entry {
-            kind: entry_kind(layouts.output, entry),
+            kind: kind.get(),
             bytes: &room.content.as_slice()[..count],
             reading: layouts.reading,
         },

@@ -36,6 +36,7 @@ fn sent_text<'a>(records: Qualifying<'a>, sent: Sent<'a>) -> SentText<'a> {
             side,
             number: entry.number,
             subscripts: entry.subscripts,
+            part: entry.part,
         }),
     }
 }
@@ -53,6 +54,7 @@ fn asking<'a>(scene: &Scene<'a>, number: SingleNumber) -> Option<AskingMove<'a>>
             side: Side::Out,
             number: single.receiver.number,
             subscripts: single.receiver.subscripts,
+            part: single.receiver.part,
         },
     })
 }
@@ -80,6 +82,7 @@ fn count_text<'a>(
         side,
         number: table.count,
         subscripts: &[],
+        part: None,
     };
     let item = subject.item()?;
     Some(StopText {

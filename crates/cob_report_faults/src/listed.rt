@@ -31,6 +31,7 @@ fn count_text<'a>(
         side: Side::In,
         number: table.count,
         subscripts: &[],
+        part: None,
     };
     let item = subject.item()?;
     Some(StopText {

@@ -1,9 +1,9 @@
 //! Occurrences of entries and constants, as they are told.
 
 use cob_copybook_tree::{Item, Kind, Name, Node, Value};
-use cob_layout_places::Ref;
+use cob_layout_places::{ItemPart, Ref};
 use cob_move_data::{Sender, Side};
-use cob_report_words::{ConstantText, NamedOccurrence, entry_of, write_subscripts};
+use cob_report_words::{ConstantText, NamedOccurrence, entry_of, write_part, write_subscripts};
 use std::fmt;
 
 /// The records of a paragraph, in which names are looked for.
@@ -14,13 +14,15 @@ pub struct Qualifying<'a> {
 }
 
 /// An occurrence of an entry of one of two records, which prints as its name and its subscripts, as `T (1, 2)`; where the name alone stands for several
-/// entries, with the groups that hold it, as `T OF G OF R (1, 2)`.
+/// entries, with the groups that hold it, as `T OF G OF R (1, 2)`. Behind it stands the part that is meant, as `T (1, 2) (3:4)`.
 #[derive(Clone, Copy)]
 pub struct Occurrence<'a> {
     pub records: Qualifying<'a>,
     pub side: Side,
     pub number: usize,
     pub subscripts: &'a [u32],
+    /// The part that is meant. None where all of it is.
+    pub part: Option<ItemPart>,
 }
 
 /// How many entries, of this one and those beneath it, have this name.
@@ -55,11 +57,15 @@ impl<'a> Occurrence<'a> {
             side,
             number: entry.node,
             subscripts: entry.subscripts.as_slice(),
+            part: entry.part,
         }
     }
 
-    /// What the entry describes.
+    /// What the entry describes; None where a part of it is meant, which is its characters.
     pub fn kind(&self) -> Option<&'a Kind> {
+        if self.part.is_some() {
+            return None;
+        }
         match entry_of(self.records.record(self.side), self.number) {
             Some(entry) => Some(&entry.kind),
             None => None,
@@ -88,10 +94,11 @@ impl fmt::Display for Occurrence<'_> {
         match &entry.name {
             Some(name) if self.records.is_alone(name) => {
                 write!(f, "{name}")?;
-                write_subscripts(f, self.subscripts)
+                write_subscripts(f, self.subscripts)?;
             }
-            _ => write!(f, "{}", self.qualified()),
+            _ => write!(f, "{}", self.qualified())?,
         }
+        write_part(f, self.part)
     }
 }
 

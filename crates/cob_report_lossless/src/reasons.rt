@@ -95,7 +95,7 @@ pub struct ToldLoss<'a> {
 
 /// An occurrence of an entry of the record of a layout, by its name.
 pub fn named_in<'a>(layout: &'a Layout, element: Element<'_>) -> NamedOccurrence<'a> {
-    NamedOccurrence::new(layout.root(), element.number, element.subscripts)
+    NamedOccurrence::new(layout.root(), element.number, element.subscripts).parted(element.part)
 }
 
 /// What is told of a statement on this line.
@@ -162,7 +162,7 @@ fn told_sender<'a>(moves: &MovesBetween<'a>, single: &LinedSingle<'a>) -> Option
             side: Side::In,
             entry,
         } => {
-            if !is_group(moves.layouts.input, entry.number) {
+            if entry.part.is_some() || !is_group(moves.layouts.input, entry.number) {
                 return None;
             }
             Some(LossReason::SendingGroup(named_in(moves.layouts.input, entry)))
@@ -175,7 +175,7 @@ fn told_operand<'a>(moves: &MovesBetween<'a>, single: &LinedSingle<'a>) -> Optio
     if let Some(reason) = told_sender(moves, single) {
         return Some(reason);
     }
-    if !is_group(moves.layouts.output, single.receiver.number) {
+    if single.receiver.part.is_some() || !is_group(moves.layouts.output, single.receiver.number) {
         return None;
     }
     Some(LossReason::ReceivingGroup(named_in(moves.layouts.output, single.receiver)))

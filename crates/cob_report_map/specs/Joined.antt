@@ -13,9 +13,9 @@ abbrev pub side_origin : Side → ℕ → Origin
 side_origin In number = Input number
 side_origin Out number = Output number
 
--- what is sent in the statement with this place
+-- what is sent in the statement with this place: of a part, its entry
 abbrev pub sent_origin : ℕ → PlainSent → Origin
-sent_origin statement (Entry side x) = side_origin side x.number
+sent_origin statement (Entry side x part) = side_origin side x.number
 sent_origin statement (Literal c) = Constant statement
 
 -- what a single move joins

@@ -47,6 +47,7 @@ fn named_in<'a>(sides: &'a Sides<'_>, side: Side, element: Element<'_>) -> Named
         Side::Out => &sides.output,
     };
     NamedOccurrence::new(drawn.layout.root(), element.number, element.subscripts)
+        .parted(element.part)
 }
 
 /// What a single move sends, which prints as the name of an occurrence or as a constant.

@@ -18,7 +18,7 @@ use crate::source::{SourceText, told_source};
 use crate::statements::{
     broken_on, is_constant, statement_in_front, tested_on, with_head, words_at,
 };
-use crate::subscripts::told_subscripts;
+use crate::subscripts::{told_part, told_subscripts};
 use crate::told::{Told, advised_at, advised_plainly, said_plainly};
 use crate::verbs::told_statement_words;
 use cob_move_statements::MoveRule;
@@ -119,6 +119,7 @@ fn other_words(rule: MoveRule) -> (&'static str, &'static str) {
         | MoveRule::Groups
         | MoveRule::TooLong
         | MoveRule::NotComparable
+        | MoveRule::Part
         | MoveRule::Memory => ("the statement breaks this rule", "FAULTS.md, A paragraph"),
     }
 }
@@ -161,6 +162,7 @@ fn told_statement<'a>(both: BothWords<'a>, words: &'a [Token], rule: MoveRule) -
         MoveRule::Literal => told_literal(statement),
         MoveRule::Groups => told_groups(both, statement),
         MoveRule::NotComparable => told_comparison(both, statement),
+        MoveRule::Part => told_part(statement),
         MoveRule::Source(_)
         | MoveRule::Twice
         | MoveRule::Counter

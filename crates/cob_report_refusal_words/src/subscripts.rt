@@ -9,6 +9,7 @@ use crate::tables::greatest_number;
 use crate::terms::{behind, is_name_word, is_term, whole};
 use crate::told::{Caret, Told, advised, advised_at, advised_plainly};
 use cob_copybook_clauses::{WordClass, qualifiers_at};
+use cob_move_loops::is_that_word;
 use cob_source::Token;
 
 /// How many elements the table has that holds so many tables round an entry, or that the entry is itself; nothing where there are no more.
@@ -177,5 +178,25 @@ pub(crate) fn told_subscripts<'a>(both: BothWords<'_>, statement: &'a [Token]) -
         statement,
         "the subscripts of a name are not one for each OCCURS round it, each from 1 to its greatest number",
         "write the subscripts of all tables, the outermost first; end a loop before the table's end",
+    )
+}
+
+/// What is told of a statement with a part that its item hasn't.
+pub(crate) fn told_part(statement: &[Token]) -> Told<'_> {
+    let mut part = statement;
+    for (at, word) in statement.iter().enumerate() {
+        if is_that_word(word, b":") {
+            part = behind_many(statement, at.saturating_sub(2));
+            break;
+        }
+    }
+    advised(
+        Caret::under_first(part),
+        Phrase::plain(
+            "the item hasn't this part: a number that is not DISPLAY and a group that varies have none, and others from their first character to their last",
+        ),
+        Phrase::plain(
+            "write (start:length) with a start from 1 that ends within the item, in each turn of a loop; move a packed or binary number to a DISPLAY one first",
+        ),
     )
 }

@@ -187,6 +187,7 @@ pub(crate) fn put_items<W: Sink>(
         let mut reference = Ref {
             node: item.number,
             subscripts: ArrayVec::new(),
+            part: None,
         };
         put_elements(
             sink,

@@ -26,6 +26,6 @@ mod pictures;
 pub use constants::ConstantText;
 pub use described::{DescribedText, GotText};
 pub use items::ItemText;
-pub use names::{NamedOccurrence, Subscripts, entry_of, item_of, write_subscripts};
+pub use names::{NamedOccurrence, Subscripts, entry_of, item_of, write_part, write_subscripts};
 pub use occurrences::{advance, first_subscripts, tables_over};
 pub use pictures::PictureText;

@@ -2,6 +2,7 @@
 
 use arrayvec::ArrayVec;
 use cob_copybook_tree::{Item, Kind, Name, Node};
+use cob_layout_places::ItemPart;
 use cob_limits::MAX_SUBSCRIPTS;
 use std::fmt;
 
@@ -14,6 +15,8 @@ pub struct NamedOccurrence<'a> {
     root: &'a Node,
     number: usize,
     subscripts: Subscripts,
+    /// The part that is meant. None where all of it is.
+    part: Option<ItemPart>,
 }
 
 /// The same subscripts once more; only so many as there may be.
@@ -53,11 +56,21 @@ impl<'a> NamedOccurrence<'a> {
             root,
             number,
             subscripts: kept_subscripts(subscripts),
+            part: None,
         }
     }
 
-    /// The item that the entry is.
+    /// A part of it, or all of it.
+    pub fn parted(mut self, part: Option<ItemPart>) -> NamedOccurrence<'a> {
+        self.part = part;
+        self
+    }
+
+    /// The item that the entry is; None where a part of it is meant, which is its characters.
     pub fn item(&self) -> Option<&'a Item> {
+        if self.part.is_some() {
+            return None;
+        }
         item_of(self.root, self.number)
     }
 }
@@ -113,9 +126,18 @@ pub fn write_subscripts<W: fmt::Write>(
     write!(f, ")")
 }
 
+/// Writes a part in brackets, where one is meant.
+pub fn write_part<W: fmt::Write>(f: &mut fmt::Formatter<W>, part: Option<ItemPart>) -> fmt::Result {
+    match part {
+        Some(part) => write!(f, " ({}:{})", part.start, part.length),
+        None => Ok(()),
+    }
+}
+
 impl fmt::Display for NamedOccurrence<'_> {
     fn fmt<W: fmt::Write>(&self, f: &mut fmt::Formatter<W>) -> fmt::Result {
         write_names(f, self.root, self.number)?;
-        write_subscripts(f, self.subscripts.as_slice())
+        write_subscripts(f, self.subscripts.as_slice())?;
+        write_part(f, self.part)
     }
 }

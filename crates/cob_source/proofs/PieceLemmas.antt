@@ -5,21 +5,21 @@ use Rattle.std.specs.List.{AllByRecursion}
 use Rattle.std.proofs.lemmas.Bool.{eq-eqb, ne_eqb}
 use Rattle.std.proofs.lemmas.List.{take-append-drop}
 use Rattle.cob_source.specs.declared.token.Cell.{Cell}
-use Rattle.cob_source.specs.Pieces.{is_bracket, is_cut, cut_first, led_by, piece_before, pieces}
+use Rattle.cob_source.specs.Pieces.{stands_alone, is_cut, cut_first, led_by, piece_before, pieces}
 
 -- what isn't cut is neither a comma nor a bracket
 uncut_comma : (b : ℕ) → is_cut b ≡ false → (b == 44) ≡ false
-uncut_comma b e = go (is_bracket b) (b == 44) refl refl
+uncut_comma b e = go (stands_alone b) (b == 44) refl refl
   where
-    go : (x y : Bool) → is_bracket b ≡ x → (b == 44) ≡ y → (b == 44) ≡ false
+    go : (x y : Bool) → stands_alone b ≡ x → (b == 44) ≡ y → (b == 44) ≡ false
     go x false ex ey = ey
     go true true ex ey = absurd (let h : is_cut b ≡ true = rw ex refl in let k : true ≡ false = sym h ∙ e in cc)
     go false true ex ey = absurd (let h : is_cut b ≡ true = rw (ex, ey) refl in let k : true ≡ false = sym h ∙ e in cc)
 
-uncut_bracket : (b : ℕ) → is_cut b ≡ false → is_bracket b ≡ false
-uncut_bracket b e = go (is_bracket b) refl
+uncut_bracket : (b : ℕ) → is_cut b ≡ false → stands_alone b ≡ false
+uncut_bracket b e = go (stands_alone b) refl
   where
-    go : (x : Bool) → is_bracket b ≡ x → is_bracket b ≡ false
+    go : (x : Bool) → stands_alone b ≡ x → stands_alone b ≡ false
     go false ex = ex
     go true ex = absurd (let h : is_cut b ≡ true = rw ex refl in let k : true ≡ false = sym h ∙ e in cc)
 
@@ -29,7 +29,7 @@ before_run c cs more e f = rw (uncut_comma c.byte e, uncut_bracket c.byte e, f) 
 before_end : (c : Cell) (cs : List Cell) (more : List (List Cell)) → is_cut c.byte ≡ false → cut_first cs ≡ true → piece_before c cs more ≡ (c ∷ []) ∷ more
 before_end c cs more e f = rw (uncut_comma c.byte e, uncut_bracket c.byte e, f) refl
 
-before_bracket : (c : Cell) (cs : List Cell) (more : List (List Cell)) → (c.byte == 44) ≡ false → is_bracket c.byte ≡ true → piece_before c cs more ≡ (c ∷ []) ∷ more
+before_bracket : (c : Cell) (cs : List Cell) (more : List (List Cell)) → (c.byte == 44) ≡ false → stands_alone c.byte ≡ true → piece_before c cs more ≡ (c ∷ []) ∷ more
 before_bracket c cs more e f = rw (e, f) refl
 
 pieces-run : (c : Cell) (a rest : List Cell) → AllByRecursion (λ c. is_cut c.byte ≡ false) (c ∷ a) → cut_first rest ≡ true → pieces (c ∷ (a ++ rest)) ≡ (c ∷ a) ∷ pieces rest
@@ -43,10 +43,10 @@ pieces-comma c rest e = let h : (c.byte == 44) ≡ true = eq-eqb _ _ e in rw h r
 not_comma : (b : ℕ) → b ≢ 44 → (b == 44) ≡ false
 not_comma b ne = ne_eqb _ _ ne
 
-cut_is_bracket : (b : ℕ) → b ≢ 44 → is_cut b ≡ true → is_bracket b ≡ true
-cut_is_bracket b ne e = go (is_bracket b) refl
+cut_stands_alone : (b : ℕ) → b ≢ 44 → is_cut b ≡ true → stands_alone b ≡ true
+cut_stands_alone b ne e = go (stands_alone b) refl
   where
-    go : (x : Bool) → is_bracket b ≡ x → is_bracket b ≡ true
+    go : (x : Bool) → stands_alone b ≡ x → stands_alone b ≡ true
     go true ex = ex
     go false ex = absurd (let c = not_comma b ne in let h : is_cut b ≡ false = rw (ex, c) refl in let k : true ≡ false = sym e ∙ h in cc)
 
@@ -58,7 +58,7 @@ pieces-first (d ∷ cells) c after zero k e ne all f z s =
     let same : d ≡ c = cc in
     let one : k ≡ 1 = z refl in
     let p : d.byte ≢ 44 = λ h. ne (ap (λ (x : Cell). x.byte) (sym same) ∙ h) in
-    before_bracket d cells (pieces cells) (not_comma d.byte p) (cut_is_bracket d.byte p f) ∙ ap (λ (j : ℕ). take j (d ∷ cells) ∷ pieces (drop j (d ∷ cells))) (sym one)
+    before_bracket d cells (pieces cells) (not_comma d.byte p) (cut_stands_alone d.byte p f) ∙ ap (λ (j : ℕ). take j (d ∷ cells) ∷ pieces (drop j (d ∷ cells))) (sym one)
 pieces-first (d ∷ cells) c after (suc n) k e ne all f z s =
     let whole : k ≡ suc n = s (omega arith) in
     ap (λ (t : List Cell). pieces (d ∷ t)) (sym (take-append-drop n cells)) ∙ pieces-run d (take n cells) (drop n cells) all f

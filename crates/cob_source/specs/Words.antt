@@ -144,7 +144,7 @@ pub record AreCutsOf (m : Cutting) (text : List ℕ) (ts : List Lexeme) : Type 0
 abbrev pub AreWordsOf : List ℕ → List Lexeme → Type 0
 AreWordsOf text ts = AreCutsOf Whole text ts
 
--- the words of a paragraph: those of its text, each cut again at brackets and commas
+-- the words of a paragraph: those of its text, each cut again at brackets, colons and commas
 abbrev pub AreParagraphWordsOf : List ℕ → List Lexeme → Type 0
 AreParagraphWordsOf text ts = AreCutsOf Apart text ts
 

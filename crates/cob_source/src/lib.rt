@@ -4,7 +4,7 @@
 //! Copybooks and paragraphs come as texts in fixed columns: 1 to 6 mean nothing, 7 is the indicator, 8 to 72 hold the
 //! text, and what is behind is ignored. `tokens` gives a text's words, literals and stops, each with the line and the
 //! column of its first character, or the rule of the format that the text breaks and the line that breaks it.
-//! `paragraph_tokens` cuts the words again at brackets and commas, as the statements of a paragraph need it.
+//! `paragraph_tokens` cuts the words again at brackets, colons and commas, as the statements of a paragraph need it.
 //! [`WordsAhead`] gives the same words piece by piece, some lines at once. [`free_tokens`] gives the words of a text in free format, where what stands on a line
 //! counts from its first character on, and [`tokens_in`] those of a text in either format. [`without_tabs`] puts spaces in place of the tabs of a text.
 //!
@@ -20,7 +20,7 @@
 //! in CR LF: [`without_return`] takes the carriage return off (`cut_return`).
 //!
 //! The definitions stand in `specs/`: `Comments` says how far the columns of a line count, `Lines` joins columns 8 to 72 of the plain and continuation lines to one text, `Pieces`
-//! is the cut at brackets and commas, `Cuts` cuts a joined text into words, literals and stops, `Words` says which rules a
+//! is the cut at brackets, colons and commas, `Cuts` cuts a joined text into words, literals and stops, `Words` says which rules a
 //! text breaks and which words it has, and `Tokens` is what a reader of tokens sees of them. `Free` says the same of a text in free format, `Formats` of one in
 //! either, and `Tabs` what stands in place of tabs. `Reading` holds what the
 //! reader keeps from line to line; no public clause names it but through `Ahead`, how far a paragraph is read. The crate stands on `cob_limits` for the length of a text, and on `thiserror` for the

@@ -108,8 +108,8 @@ pub fn tokens(alloc: Global, text: &[u8]) -> Result<Vec<Token>, SourceFault>
     read(alloc, Cutting::Whole, text)
 }
 
-/// The words, literals and stops of a paragraph: those of its text, each word cut again at brackets and commas. A bracket is a
-/// word of its own, a comma only separates, and each piece has the line and the column of its own first character.
+/// The words, literals and stops of a paragraph: those of its text, each word cut again at brackets, colons and commas. A bracket or a
+/// colon is a word of its own, a comma only separates, and each piece has the line and the column of its own first character.
 ///
 /// # Errors
 /// As [`tokens`].

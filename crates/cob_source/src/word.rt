@@ -1,7 +1,7 @@
 ghost use Rattle.std.specs.Prelude.{◌≡◌, ◌≤◌, ◌++◌, length, take, drop, true, false, IfOk, OnOk};
 ghost use Rattle.std.specs.List.{AllByRecursion, flat_map};
 ghost use Rattle.cob_source.specs.Tokens.{lexemes};
-ghost use Rattle.cob_source.specs.Pieces.{is_bracket, is_cut, cut_first, pieces};
+ghost use Rattle.cob_source.specs.Pieces.{is_bracket, is_cut, cut_first, pieces, stands_alone};
 ghost use Rattle.cob_source.specs.Cuts.{word_text, word, words_of};
 
 use crate::token::{Cell, Cutting, Token, TokenKind};
@@ -41,11 +41,18 @@ fn is_bracket(byte: u8) -> bool
     byte == b'(' || byte == b')'
 }
 
+/// Whether the character is a piece by itself.
+fn stands_alone(byte: u8) -> bool
+    ensures { result ≡ stands_alone byte }
+{
+    is_bracket(byte) || byte == b':'
+}
+
 /// Whether a word is cut at the character.
 fn is_cut(byte: u8) -> bool
     ensures { result ≡ is_cut byte }
 {
-    is_bracket(byte) || byte == b','
+    stands_alone(byte) || byte == b','
 }
 
 /// How many characters stand before the first one at which a word is cut.

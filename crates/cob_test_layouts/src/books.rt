@@ -103,6 +103,7 @@ pub(crate) fn reference_of(root: &Node, written: &str) -> Result<Ref, RowFault> 
         Some(entry) => Ok(Ref {
             node: entry.number,
             subscripts,
+            part: None,
         }),
         None => Err(RowFault::BadRow),
     }

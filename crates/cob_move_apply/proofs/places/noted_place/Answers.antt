@@ -1,8 +1,5 @@
 use Rattle.cob_move_apply.proofs.places.noted_place.Goals as goal
 
-pub place_by_sums-requires-clause-refers : goal.place_by_sums-requires-clause-refers
-place_by_sums-requires-clause-refers c = c.requires.placed.operand.refers
-
 pub place_by_sums-requires-clause-room : goal.place_by_sums-requires-clause-room
 place_by_sums-requires-clause-room c = c.requires.survey.room
 

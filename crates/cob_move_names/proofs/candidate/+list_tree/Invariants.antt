@@ -3,6 +3,8 @@ use Rattle.cob_copybook_tree.specs.Nodes.{tree_of}
 use Rattle.cob_copybook_names.specs.Listed.{texts}
 use Rattle.cob_layout_places.proofs.ForestLemmas.{left}
 use Rattle.cob_layout.specs.Sound.{AreNested}
+use Rattle.cob_layout_places.specs.Lengths.{MayOccur}
+use Rattle.cob_layout_places.specs.Parts.{AreMeasured}
 use Rattle.cob_move_names.specs.Candidates.{candidates}
 use Rattle.cob_move_names.specs.Listed.{candidate_of}
 use Rattle.cob_move_names.proofs.candidate.+list_tree.Given as goal
@@ -15,6 +17,8 @@ invariant-loop-child l =
     let rest = left l.child-items l.child-index in
     record {
       nested : AreNested (length l.inner.items) rest;
+      possible : MayOccur rest;
+      measured : AreMeasured rest;
       listed : map candidate_of l.listed.items ++ candidates l.side (texts l.beneath.items) l.inner.items rest
           ≡ map candidate_of l.fn.listed.items ++ candidates l.side (texts l.above) l.holding (tree_of l.entry);
     }

@@ -1,7 +1,7 @@
 use Rattle.std.proofs.Common.{◌<◌, ◌==◌, ◌∙◌, ap, ◌++◌, ◌∷◌, length, refl}
 use Rattle.cob_source.specs.Tokens.{lexemes}
 use Rattle.cob_move_statements.specs.Written.{written_references, written_sender}
-use Rattle.cob_move_statements.proofs.StatementLemmas.{move_cut, move_split, same_move, written_some}
+use Rattle.cob_move_statements.proofs.StatementLemmas.{move_cut, move_split, same_move, written_none, written_some}
 use Rattle.cob_move_statements.proofs.actions.move_at.Goals as goal
 
 pub returns-clause-found : goal.returns-clause-found
@@ -21,3 +21,11 @@ returns-clause-only c = λ s rs ws more is fit e.
     let sent = c.in-Some.ensures.only s sender (receivers ++ more) b sends ib split in
     let got = c.in_ok-receivers.ensures.only rs receivers more several fit sent.1 in
     (same_move (written_sender c.in-Some.sender) s (written_references c.in_ok-receivers.receivers.items) rs sent.0 got.0, got.1)
+
+pub returns-then-is_empty-clause-only : goal.returns-then-is_empty-clause-only
+returns-then-is_empty-clause-only c = λ s rs ws more is fit e.
+    let (sender, receivers, b, sends, ib, some, several, same) = is in
+    let split = move_split b (lexemes c.args.words.now) ws sender receivers more e same in
+    let sent = c.in-Some.ensures.only s sender (receivers ++ more) b sends ib split in
+    let got = c.in_ok-receivers.ensures.only rs receivers more several fit sent.1 in
+    written_none c.in_ok-receivers.receivers.items c.is_empty.result (c.is_empty.ensures ∙ ap (λ n. n == 0) c.in_ok-receivers.receivers.ok.0) c.if-is_empty.true rs got.0 some

@@ -1,11 +1,14 @@
-use Rattle.std.proofs.Common.{ap}
-use Rattle.cob_source.specs.Tokens.{lexeme, lexemes}
-use Rattle.cob_move_statements.proofs.ReferenceLemmas.{found_in, only_in}
+use Rattle.cob_source.specs.Tokens.{lexemes}
+use Rattle.cob_move_statements.proofs.ReferenceLemmas.{found_in, none_in, only_in}
 use Rattle.cob_move_statements.proofs.subscripts.subscripts_at.Goals as goal
 
-pub returns-in-Some-clause-found : goal.returns-in-Some-clause-found
-returns-in-Some-clause-found c = found_in (lexemes c.args.words.now) c.bracketed_at.result c.bracketed_at.ensures.found
+pub returns-then-begins_with_subscripts-clause-found : goal.returns-then-begins_with_subscripts-clause-found
+returns-then-begins_with_subscripts-clause-found c = found_in (lexemes c.args.words.now) c.bracketed_at.result c.bracketed_at.ensures.found
 
-pub returns-in-Some-clause-only : goal.returns-in-Some-clause-only
-returns-in-Some-clause-only c =
-    only_in (lexemes c.args.words.now) (lexemes c.in-Some.field-0-1.now) (lexeme c.in-Some.first.now) c.bracketed_at.result (ap lexemes c.in-Some.ensures.cases.0) (c.is_term.ensures.0 c.if-is_term.true) c.bracketed_at.ensures.only
+pub returns-then-begins_with_subscripts-clause-only : goal.returns-then-begins_with_subscripts-clause-only
+returns-then-begins_with_subscripts-clause-only c =
+    only_in (lexemes c.args.words.now) c.bracketed_at.result (c.begins_with_subscripts.ensures.yes c.if-begins_with_subscripts.true) c.bracketed_at.ensures.only
+
+pub returns-else-begins_with_subscripts-clause-only : goal.returns-else-begins_with_subscripts-clause-only
+returns-else-begins_with_subscripts-clause-only c = λ ts ws more are fit e.
+    none_in (lexemes c.args.words.now) (c.begins_with_subscripts.ensures.no c.if-begins_with_subscripts.false) ts ws more are e

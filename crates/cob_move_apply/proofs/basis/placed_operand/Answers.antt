@@ -1,6 +1,0 @@
-use Rattle.cob_move_data.specs.Moves.{operand_in}
-use Rattle.cob_move_apply.proofs.SeenLemmas.{there}
-use Rattle.cob_move_apply.proofs.basis.placed_operand.Goals as goal
-
-pub kind-requires : goal.kind-requires
-kind-requires c = record { there = there c.args.layout.now (operand_in c.args.layout.now c.args.entry.now) c.requires.sound.numbered c.requires.operand }
