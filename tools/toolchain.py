@@ -24,15 +24,20 @@ loader.exec_module(rt)
 ROOT = os.path.dirname(os.path.dirname(os.path.realpath(__file__)))
 
 
+def list_once():
+    """Has what a crate stands on listed once from here on, and not again for each way that leads to it through crates.txt: there are two million ways."""
+    listed, lists = rt.rtlib.Crate.below, {}
+    rt.rtlib.Crate.below = lambda crate: [*(lists.get(crate.folder) or lists.setdefault(crate.folder, listed(crate)))]
+
+
 class Sums:
-    """Has each crate's sources summed once while a tool runs, and what it stands on listed once, and not again for each way that leads to it through
-    crates.txt. The sources must not change meanwhile: changed() tells which did."""
+    """Has each crate's sources summed once while a tool runs, and what it stands on listed once. The sources must not change meanwhile: changed() tells which
+    did."""
 
     def __init__(self):
         self.plain, self.crates, self.sums = rt.rtlib.Crate.stamp, {}, {}
-        listed, lists = rt.rtlib.Crate.below, {}
         rt.rtlib.Crate.stamp = lambda crate: self.sum(crate)
-        rt.rtlib.Crate.below = lambda crate: [*(lists.get(crate.folder) or lists.setdefault(crate.folder, listed(crate)))]
+        list_once()
 
     def sum(self, crate):
         self.crates.setdefault(crate.folder, crate)
