@@ -1,6 +1,6 @@
 //! What a written reference names.
 
-ghost use Rattle.std.specs.Prelude.{◌≡◌, ◌<◌, ◌+◌, ◌-◌, ◌≤◌, ◌×◌, ℕ, [], None, Some, IfErr, IfNone, IfOk, IfSome, IsOkAnd, OnOk, option_map};
+ghost use Rattle.std.specs.Prelude.{◌≡◌, ◌<◌, ◌+◌, ◌-◌, ◌≤◌, ℕ, [], None, Some, IfErr, IfNone, IfOk, IfSome, IsOkAnd, OnOk, option_map};
 ghost use Rattle.cob_source.specs.Tokens.{lexemes};
 ghost use Rattle.cob_limits.specs.Limits.{longest_record};
 ghost use Rattle.cob_move_data.specs.declared.operands.Operand.{Operand as SeenOperand};
