@@ -7,7 +7,7 @@ use Rattle.cob_layout_places.specs.Parts.{characters_of}
 use Rattle.cob_copybook_names.specs.declared.bearer.Bearer.{Bearer as Listed}
 use Rattle.cob_copybook_names.specs.Listed.{bearer_by}
 use Rattle.cob_copybook_names.specs.Naming.{Bearer}
-use Rattle.cob_move_names.specs.declared.candidate.RecordEntry.{RecordEntry as ListedEntry}
+use Rattle.cob_move_names.specs.declared.record_entry.RecordEntry.{RecordEntry as ListedEntry}
 use Rattle.cob_move_names.specs.declared.valued.ValuedEntry.{ValuedEntry as ListedValued}
 use Rattle.cob_move_names.specs.Candidates.{Candidate, RecordEntry}
 use Rattle.cob_move_names.specs.Valued.{ValuedEntry}

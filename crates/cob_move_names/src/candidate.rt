@@ -13,28 +13,12 @@ ghost use Rattle.cob_limits.specs.Limits.{longest_record, most_dimensions};
 ghost use Rattle.cob_move_names.specs.Candidates.{candidate, candidates, with_table};
 ghost use Rattle.cob_move_names.specs.Listed.{ListsMore};
 
+use crate::record_entry::{CandidateTables, RecordEntry};
 use arrayvec::ArrayVec;
 use cob_copybook_names::{Bearer, name_of, names_beneath};
 use cob_layout::{Node, is_table};
-use cob_limits::MAX_SUBSCRIPTS;
 use cob_move_data::Side;
 use std::alloc::{AllocError, Global};
-
-/// The greatest numbers of tables, one within the other, the outermost first.
-type CandidateTables = ArrayVec<u32, MAX_SUBSCRIPTS>;
-
-/// An entry of one of the two records.
-#[derive(Drop)]
-pub(crate) struct RecordEntry<'a> {
-    pub side: Side,
-    pub entry: &'a Node,
-    /// The tables that hold it or that it is.
-    pub tables: CandidateTables,
-
-    pub ghost possible: { MayOccur (tree_of entry.now) },
-    pub ghost short: { whole_length greatest_number (node entry.now).top (node entry.now).beneath
-        ≤ longest_record },
-}
 
 /// The tables that hold an entry, and itself if it is one.
 fn tables_of(entry: &Node, holding: &[u32]) -> CandidateTables

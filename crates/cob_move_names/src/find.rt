@@ -14,8 +14,9 @@ ghost use Rattle.cob_move_names.specs.References.{AreSubscriptsOf, BreaksReceive
 ghost use Rattle.cob_move_names.specs.Valued.{all_values, named_values, plain_names};
 ghost use Rattle.cob_move_names.specs.Values.{BreaksValues, NamesValues, conditions_of};
 
-use crate::candidate::{RecordEntry, list_tree};
+use crate::candidate::list_tree;
 use crate::directory::Names;
+use crate::record_entry::RecordEntry;
 use crate::subscripts::{read_subscripts, subscript_of};
 use crate::valued::{ConditionNames, ValuedEntry, list_values};
 use arrayvec::ArrayVec;

@@ -73,6 +73,7 @@ mod pair_list;
 mod pairing;
 mod partners;
 mod qualifiers;
+mod record_entry;
 mod sending;
 mod subordinate;
 mod subscripts;

@@ -4,7 +4,7 @@ use Rattle.cob_copybook_conditions.specs.Names.{plain_condition_names}
 use Rattle.cob_copybook_names.specs.declared.bearer.Bearer.{Bearer as Listed}
 use Rattle.cob_copybook_tree.specs.Forests.{Forest}
 use Rattle.cob_copybook_tree.specs.Nodes.{Resolved}
-use Rattle.cob_move_names.specs.declared.candidate.RecordEntry.{RecordEntry as ListedEntry}
+use Rattle.cob_move_names.specs.declared.record_entry.RecordEntry.{RecordEntry as ListedEntry}
 use Rattle.cob_move_names.specs.Candidates.{Candidate, candidates}
 use Rattle.cob_move_names.specs.Listed.{ListsMore, ListsValues}
 use Rattle.cob_move_names.specs.Valued.{named_values}
