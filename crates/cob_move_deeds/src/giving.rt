@@ -23,7 +23,7 @@ ghost use Rattle.cob_move_deeds.specs.Tests.{GivesIn, LacksIn};
 
 use crate::sides::Sides;
 use cob_layout::{Layout, Place, one_outcome_of_counts, places_lie_in_storage, records_are_sound};
-use cob_move_apply::{PlacedEntry, Reading, Scratch, Stop, StopCause, entry_kind, field};
+use cob_move_apply::{PlacedEntry, Reading, Scratch, Stop, StopCause, field};
 use cob_move_condition::Operands;
 use cob_move_data::Side;
 use cob_move_receive::Sent;
