@@ -173,8 +173,8 @@ fn bound_named(entries: &Entries<'_, '_>, words: &[Token]) -> Result<NamedEntry,
         return Err(MoveRule::Grammar);
     };
     let found = entries.named(&reference)?;
-    let kind = entries.kind(found.side, &found.entry);
-    if !is_bound_item(kind.get()) {
+    let own = entries.kind(found.side, &found.entry);
+    if !is_bound_item(own.get()) {
         return Err(MoveRule::Counter);
     }
     Ok(found)
