@@ -400,7 +400,7 @@ fn try_turns<'a>(
     // For turns that are sure: words are one list of statements, and one reference.
     one_list_of_ended();
     one_reference();
-    // A turn with a choice is never sure: it is read at once.
+    // A turn with a choice or with a part of an item is never sure: it is read at once.
     let deep = plain_depth(body);
     let mut next = head.from;
     let mut sure = false;

@@ -95,6 +95,7 @@ pub use cob_layout::{
     tables, times_of, value_of,
 };
 pub use cob_move_data::{Move, NumberedPair, Operand, PairMoves, Sender, Side, StatementMoves};
+pub use item_parts::fixed_operand;
 pub use laws::{one_ending, whole_stands};
 pub use marked::MarkedMoves;
 pub use moves::Moves;
