@@ -319,9 +319,9 @@ put_operand side first more o = record { side = side; operand = o; first = first
 -- ---- operands
 
 of_item : RecordsAreSound → (records : Records) (e : RecordEntry) (texts : List (List ℕ)) → IsRecordDescription records.input → IsRecordDescription records.output
-    → IsItemOf (all_entries records.input records.output) e → AreSubscriptsOf e.tables texts → IsOperand (record_of records e.side) (entry_operand e (subscript_numbers texts))
+    → IsItemOf (all_entries records.input records.output) e → AreSubscriptsOf e.tables texts → IsOperand (record_of records e.side) (entry_operand e (subscript_numbers texts) None)
 of_item sound records e texts input output (c, o, is) h =
-    subst (λ (x : RecordEntry). IsOperand (record_of records x.side) (entry_operand x (subscript_numbers texts))) (sym is)
+    subst (λ (x : RecordEntry). IsOperand (record_of records x.side) (entry_operand x (subscript_numbers texts) None)) (sym is)
     (of_candidate sound records c texts input output o (subst (λ (x : RecordEntry). AreSubscriptsOf x.tables texts) is h))
 
 pub items_are_operands : RecordsAreSound → ItemsAreOperands

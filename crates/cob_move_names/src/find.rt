@@ -1,9 +1,8 @@
 //! What a written reference names.
 
-ghost use Rattle.std.specs.Prelude.{◌≡◌, ◌<◌, ◌+◌, ◌-◌, ◌≤◌, ◌×◌, ℕ, [], None, Some, IfErr, IfNone, IfOk, IfSome, IsOkAnd, OnOk, option_map};
+ghost use Rattle.std.specs.Prelude.{◌≡◌, ◌<◌, ◌+◌, ◌-◌, ◌≤◌, ℕ, [], None, Some, IfErr, IfNone, IfOk, IfSome, IsOkAnd, OnOk, option_map};
 ghost use Rattle.cob_source.specs.Tokens.{lexemes};
 ghost use Rattle.cob_limits.specs.Limits.{longest_record};
-ghost use Rattle.cob_move_data.specs.Moves.{kind_of_part};
 ghost use Rattle.cob_move_data.specs.declared.operands.Operand.{Operand as SeenOperand};
 ghost use Rattle.cob_move_data.specs.declared.operands.Side.TheVariants.{Out};
 ghost use Rattle.cob_move_statements.specs.Written.{word_texts, written_part, written_reference};
@@ -11,7 +10,7 @@ ghost use Rattle.cob_copybook_conditions.specs.Names.{plain_condition_names};
 ghost use Rattle.cob_move_names.specs.Candidates.{all_entries, candidates};
 ghost use Rattle.cob_move_names.specs.Directory.{FindsOnly, entries_named, operand_with_values, values_named};
 ghost use Rattle.cob_move_names.specs.Listed.{ListsMore, ListsValues, listed_record_entry};
-ghost use Rattle.cob_move_names.specs.References.{AreSubscriptsOf, BreaksReceiver, BreaksReference, HasPart, IsLengthOf, NamesOperand, length_meant, part_meant, subscript_numbers};
+ghost use Rattle.cob_move_names.specs.References.{AreSubscriptsOf, BreaksReceiver, BreaksReference, HasPart, IsLengthOf, NamesOperand, element_operand, length_meant, part_meant, subscript_numbers};
 ghost use Rattle.cob_move_names.specs.Valued.{all_values, named_values, plain_names};
 ghost use Rattle.cob_move_names.specs.Values.{BreaksValues, NamesValues, conditions_of};
 
@@ -94,11 +93,16 @@ fn part_within(characters: u32, written: &ReferencePart<'_>) -> Option<ItemPart>
     Some(ItemPart { start, length })
 }
 
+/// How many characters an element of an entry has.
+fn characters_of_entry(named: &RecordEntry<'_>) -> u32
+    ensures value { result ≡ (listed_record_entry named.now).characters }
+    ensures short { result ≤ longest_record }
+{
+    characters_of(named.entry)
+}
+
 /// The part that is meant of an entry, if one is, and the entry has it.
-fn part_of(
-    named: &RecordEntry<'_>,
-    written: &Option<ReferencePart<'_>>,
-) -> Option<Option<ItemPart>>
+fn part_of(named: &RecordEntry<'_>, written: &Option<ReferencePart<'_>>) -> Option<Option<ItemPart>>
     ensures found { IfSome result (λ p. p ≡ part_meant (listed_record_entry named.now).characters
         (option_map written_part written.now)) }
     ensures short { IfSome result (λ o. IfSome o (λ p. (0 < p.length) × (p.length ≤ longest_record))) }
@@ -110,7 +114,7 @@ fn part_of(
     match written {
         None => Some(None),
         Some(part) => {
-            let part = part_within(characters_of(named.entry), part)?;
+            let part = part_within(characters_of_entry(named), part)?;
             Some(Some(part))
         }
     }
@@ -123,8 +127,7 @@ fn operand_of(
     part: Option<ItemPart>,
 ) -> Operand
     requires { IfSome part (λ p. (0 < p.length) × (p.length ≤ longest_record)) }
-    ensures entry { result.entry ≡ record { node = (listed_record_entry named.now).number; subscripts = subscripts; part = part } }
-    ensures kind { result.kind ≡ kind_of_part part (listed_record_entry named.now).kind }
+    ensures { result ≡ element_operand (listed_record_entry named.now) subscripts.items part }
 {
     Operand {
         entry: Ref {
@@ -154,8 +157,9 @@ fn list_record<'a>(
     ensures values { OnOk result (ListsValues values.old.items values.new.items
         (named_values (candidates side [] [] layout.now) (plain_condition_names names.now))) }
 {
-    // For what `list_tree` and `list_values` ask: a record description is sound.
+    // For what `list_tree` and `list_values` ask: a record description is sound, and no entry of one is longer than a record.
     records_are_sound();
+    entries_are_measured();
     let before = entries.len();
     list_tree(alloc, side, &[], &[], layout.root(), entries)?;
     let (_, own) = entries.as_slice().split_at(before);
@@ -198,7 +202,6 @@ impl<'a> Names<'a> {
     {
         // For what `listed` asks: the entries of a record description are numbered in order,
         records_are_sound();
-        entries_are_measured();
         // and both layouts are those of record descriptions.
         let _ = input.root();
         let _ = output.root();
