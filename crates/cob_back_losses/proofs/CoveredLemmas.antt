@@ -12,12 +12,13 @@ use Rattle.cob_layout.specs.declared.layout.PlaceFault.{PlaceFault}
 use Rattle.cob_layout_places.specs.Cover.{Occurrence, holds}
 use Rattle.cob_layout_places.specs.References.{Refers}
 use Rattle.cob_layout_places.specs.declared.places.Found.{Found}
+use Rattle.cob_layout_places.specs.declared.reference.ItemPart.{ItemPart}
 use Rattle.cob_layout_places.specs.declared.reference.Ref.{Ref}
 use Rattle.cob_move_data.specs.Singles.{occurrence, occurrence_by}
 use Rattle.cob_back_losses.specs.Keeping.{IsMarked, KeepsDescription}
 use Rattle.cob_back_losses.specs.declared.keeping.Unkept.{Unkept}
 use Rattle.cob_back_losses.proofs.KeepingLemmas.{keeps_as, tells_as}
-use Rattle.cob_back_losses.specs.Moved.{TellsEach, HasByte, IsCoveredBy, Moved, StandsAt, TellsOf}
+use Rattle.cob_back_losses.specs.Moved.{Covers, IsCoveredBy, Moved, StandsAt, TellsEach, TellsOf}
 use Rattle.cob_back_losses.specs.Seen.{MarkCoveredBytes, TellsIn}
 
 -- ---- places
@@ -74,12 +75,12 @@ one_place tree x p q a b = ap (λ (f : Found). place_at f.offset f.length) (some
 pub none_covered : (tree : Forest Resolved) (marks : List Bool) → length marks ≡ sum_of greatest_number tree → ((byte : ℕ) → get_or marks byte false ≡ false) → MarkCoveredBytes tree [] marks
 none_covered tree marks all none = record { all = all; covered = λ byte. (λ is. absurd (cc (none byte, is)), λ h. absurd h) }
 
-pub covered_next : (tree : Forest Resolved) (m : Moved) (later : List Moved) (p : Place) (old new : List Bool) → StandsAt tree m.receiver p → length new ≡ length old
+pub covered_next : (tree : Forest Resolved) (m : Moved) (later : List Moved) (p : Place) (old new : List Bool) → m.part ≡ None → StandsAt tree m.receiver p → length new ≡ length old
     → ((byte : ℕ) → get_or new byte false ≡ (holds byte p.offset p.length || get_or old byte false)) → MarkCoveredBytes tree later old → MarkCoveredBytes tree (m ∷ later) new
-covered_next tree m later p old new stands long marked before = record { all = long ∙ before.all; covered = λ byte. (there_is byte, back byte) }
+covered_next tree m later p old new whole stands long marked before = record { all = long ∙ before.all; covered = λ byte. (there_is byte, back byte) }
   where
     either : (byte : ℕ) (a b : Bool) → holds byte p.offset p.length ≡ a → get_or old byte false ≡ b → (a || b) ≡ true → IsCoveredBy tree (m ∷ later) byte
-    either byte true b held was is = inl (record { place = p; stands = stands; holds = held })
+    either byte true b held was is = inl (record { whole = whole; has = record { place = p; stands = stands; holds = held } })
     either byte false true held was is = inr ((before.covered byte).0 was)
     either byte false false held was is = absurd (cc (is))
 
@@ -93,17 +94,26 @@ covered_next tree m later p old new stands long marked before = record { all = l
     or_second true b h = refl
     or_second false b h = h
 
-    back : (byte : ℕ) → HasByte tree m.receiver byte ⊎ IsCoveredBy tree later byte → get_or new byte false ≡ true
+    back : (byte : ℕ) → Covers tree m byte ⊎ IsCoveredBy tree later byte → get_or new byte false ≡ true
     back byte (inl h) =
         marked byte ∙ or_first (holds byte p.offset p.length) (get_or old byte false)
-        (subst (λ (q : Place). holds byte q.offset q.length ≡ true) (one_place tree m.receiver h.place p h.stands stands) h.holds)
+        (subst (λ (q : Place). holds byte q.offset q.length ≡ true) (one_place tree m.receiver h.has.place p h.has.stands stands) h.has.holds)
     back byte (inr h) = marked byte ∙ or_second (holds byte p.offset p.length) (get_or old byte false) ((before.covered byte).1 h)
 
 pub same_next : (tree : Forest Resolved) (m : Moved) (later : List Moved) (marks : List Bool) → ((p : Place) → StandsAt tree m.receiver p → ⊥) → MarkCoveredBytes tree later marks → MarkCoveredBytes tree (m ∷ later) marks
 same_next tree m later marks none before = record { all = before.all; covered = λ byte. (λ is. inr ((before.covered byte).0 is), back byte) }
   where
-    back : (byte : ℕ) → HasByte tree m.receiver byte ⊎ IsCoveredBy tree later byte → get_or marks byte false ≡ true
-    back byte (inl h) = absurd (none h.place h.stands)
+    back : (byte : ℕ) → Covers tree m byte ⊎ IsCoveredBy tree later byte → get_or marks byte false ≡ true
+    back byte (inl h) = absurd (none h.has.place h.has.stands)
+    back byte (inr h) = (before.covered byte).1 h
+
+-- a part covers nothing
+pub part_next : (tree : Forest Resolved) (m : Moved) (later : List Moved) (marks : List Bool) (part : ItemPart) → m.part ≡ Some part → MarkCoveredBytes tree later marks
+    → MarkCoveredBytes tree (m ∷ later) marks
+part_next tree m later marks part is before = record { all = before.all; covered = λ byte. (λ marked. inr ((before.covered byte).0 marked), back byte) }
+  where
+    back : (byte : ℕ) → Covers tree m byte ⊎ IsCoveredBy tree later byte → get_or marks byte false ≡ true
+    back byte (inl h) = let no : ◌≡◌ {A = Option ItemPart} None (Some part) = sym h.whole ∙ is in absurd (cc (no))
     back byte (inr h) = (before.covered byte).1 h
 
 -- ---- what is told

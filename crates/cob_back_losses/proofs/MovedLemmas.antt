@@ -7,7 +7,7 @@ use Rattle.cob_move_data.specs.declared.operands.StatementMoves.{StatementMoves}
 use Rattle.cob_move_data.proofs.SingleLemmas.{of_placed}
 use Rattle.cob_move_data.specs.Singles.{Entry, Literal, PlainSent, PlainSingle, all_singles, sender_between, single_between, singles_of}
 use Rattle.cob_back_losses.specs.Keeping.{SentElement}
-use Rattle.cob_back_losses.specs.Moved.{Moved, moved_single, sent_of}
+use Rattle.cob_back_losses.specs.Moved.{Moved, if_whole, moved_single, sent_of}
 use Rattle.cob_back_losses.specs.Seen.{moved_by, sent_element_by}
 
 -- ---- of statements
@@ -16,8 +16,12 @@ of_sent : (reading : Reading) (records : Records) (s : PlainSent) → sent_of re
 of_sent reading records (Entry side x part) = refl
 of_sent reading records (Literal c) = refl
 
+-- what is sent, if all of the receiver gets it
+abbrev to_whole : PlainSingle → Option SentElement → Option SentElement
+to_whole s sent = if_whole s.part sent
+
 abbrev moved_of : PlainSingle → Option SentElement → Moved
-moved_of s sent = record { sent = sent; receiver = s.receiver }
+moved_of s sent = record { sent = to_whole s sent; receiver = s.receiver; part = s.part }
 
 of_singles : (reading : Reading) (records : Records) (ss : List PlainSingle) → map (moved_single records) (map (single_between reading records) ss) ≡ map (moved_by records) ss
 of_singles reading records [] = refl

@@ -9,6 +9,7 @@ use Rattle.cob_layout_places.specs.Lengths.{times}
 use Rattle.cob_move_data.specs.Moves.{Entry, Literal, Records, Sender, record_of}
 use Rattle.cob_layout_places.specs.Places.{choose, or_else, place_of}
 use Rattle.cob_layout_places.specs.References.{Refers}
+use Rattle.cob_layout_places.specs.declared.reference.ItemPart.{ItemPart}
 use Rattle.cob_move_data.specs.Singles.{SingleMove, occurrence_of}
 use Rattle.cob_back_losses.specs.Keeping.{Constant, Element, KeepsDescription, SentElement, TellsFirstUnkept}
 use Rattle.cob_back_losses.specs.declared.keeping.Unkept.{Unkept}
@@ -20,19 +21,30 @@ abbrev pub entry_in : ℕ → Forest Resolved → Option (Tree Resolved)
 entry_in number NoEntries = None
 entry_in number (AnEntry e children more) = or_else (choose (e.number == number) (record { top = e; beneath = children }) (entry_in number children)) (entry_in number more)
 
--- what a sender sends, if its record has such an entry
+-- something of an occurrence of which all is meant, and nothing of a part: a part is characters, whatever its entry describes
+abbrev pub if_whole : {A : Type 0} → Option ItemPart → Option A → Option A
+if_whole None of_all = of_all
+if_whole (Some part) of_all = None
+
+-- what a sender sends, if its record has such an entry and all of it is sent
 abbrev pub sent_of : Records → Sender → Option SentElement
-sent_of records (Entry side reading o) = option_map Element (entry_in o.entry.node (record_of records side))
+sent_of records (Entry side reading o) = if_whole o.entry.part (option_map Element (entry_in o.entry.node (record_of records side)))
 sent_of records (Literal c) = Some (Constant c)
 
--- what is sent, and the occurrence of an entry of the output record that receives it
+-- What is sent, and the occurrence of an entry of the output record that receives it, or the part of it that does. Nothing is said to be sent from a part or to
+-- one: who moves a part moves characters, and no description is looked at.
 pub record Moved : Type 0 where
   pub sent : Option SentElement
   pub receiver : Occurrence
+  pub part : Option ItemPart
 
 -- a single move, by what it sends
 abbrev pub moved_single : Records → SingleMove → Moved
-moved_single records s = record { sent = sent_of records s.sender; receiver = occurrence_of s.receiver }
+moved_single records s = record {
+  sent = if_whole s.receiver.entry.part (sent_of records s.sender);
+  receiver = occurrence_of s.receiver;
+  part = s.receiver.entry.part;
+}
 
 -- ---- which bytes are covered
 
@@ -47,10 +59,15 @@ pub record HasByte (tree : Forest Resolved) (x : Occurrence) (byte : ℕ) : Type
   pub stands : StandsAt tree x place
   pub holds : holds byte place.offset place.length ≡ true
 
+-- all of an occurrence receives that has the byte of the record: a part, of which nothing is told, covers none
+pub record Covers (tree : Forest Resolved) (m : Moved) (byte : ℕ) : Type 0 where
+  pub whole : m.part ≡ None
+  pub has : HasByte tree m.receiver byte
+
 -- the byte of the record is covered by one of these
 abbrev pub IsCoveredBy : Forest Resolved → List Moved → ℕ → Type 0
 IsCoveredBy tree [] byte = ⊥
-IsCoveredBy tree (m ∷ ms) byte = HasByte tree m.receiver byte ⊎ IsCoveredBy tree ms byte
+IsCoveredBy tree (m ∷ ms) byte = Covers tree m byte ⊎ IsCoveredBy tree ms byte
 
 -- ---- what each may lose
 

@@ -10,20 +10,20 @@ use Rattle.cob_move_data.specs.Singles as given
 use Rattle.cob_back_losses.specs.Keeping.{Constant, Element, IsMarked, KeepsDescription, SentElement, TellsFirstUnkept, sent_element}
 use Rattle.cob_back_losses.specs.declared.keeping.Unkept.{Unkept}
 use Rattle.cob_back_losses.specs.declared.singles.JudgedSingle.{JudgedSingle}
-use Rattle.cob_back_losses.specs.Moved.{IsCoveredBy, Moved, entry_in}
+use Rattle.cob_back_losses.specs.Moved.{IsCoveredBy, Moved, entry_in, if_whole}
 
 -- what the code's value stands for
 abbrev pub seen_single : JudgedSingle → Moved
-seen_single s = record { sent = option_map sent_element s.sent; receiver = occurrence s.receiver s.subscripts.now }
+seen_single s = record { sent = option_map sent_element s.sent; receiver = occurrence s.receiver s.subscripts.now; part = s.part }
 
--- what is sent, if its record has such an entry
+-- what is sent, if its record has such an entry and all of it is sent
 abbrev pub sent_element_by : Records → PlainSent → Option SentElement
-sent_element_by records (given.Entry side x) = option_map Element (entry_in x.number (record_of records side))
+sent_element_by records (given.Entry side x part) = if_whole part (option_map Element (entry_in x.number (record_of records side)))
 sent_element_by records (given.Literal c) = Some (Constant c)
 
 -- a single move of statements, by what it sends
 abbrev pub moved_by : Records → PlainSingle → Moved
-moved_by records s = record { sent = sent_element_by records s.sent; receiver = s.receiver }
+moved_by records s = record { sent = if_whole s.part (sent_element_by records s.sent); receiver = s.receiver; part = s.part }
 
 -- the marks say of each byte of the record whether one of these covers it
 pub record MarkCoveredBytes (tree : Forest Resolved) (ms : List Moved) (marks : List Bool) : Type 0 where

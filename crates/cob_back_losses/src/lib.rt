@@ -54,7 +54,8 @@
 //! What is promised of [`descriptions_lost`]: of each single move, in their order, it answers the first byte of its receiver that does not keep its
 //! description and that no later single move covers, with the item that has it and what it gets; or None, and then each byte that no later one covers keeps
 //! it, or the move copies no bytes (`AreTold` of specs/Moved.antt). All of it is said of records in which each table has its greatest number of elements.
-//! Of a move from or to an entry that its record doesn't have, nothing is told. [`place_of`] is where an occurrence stands in such a record (`StandsAt`).
+//! Of a move from or to an entry that its record doesn't have, nothing is told, and nothing of one from or to a part of an item, whose characters are moved
+//! whatever the item describes; and a part that receives covers nothing. [`place_of`] is where an occurrence stands in such a record (`StandsAt`).
 //!
 //! The single moves are gone through from the last to the first, with a mark for each byte of the output record that is covered so far, and how far all bytes
 //! behind it are. The bytes of a move whose receiver is covered wholly are not looked at: what is known of them is found in few steps, however many they are.

@@ -1,11 +1,13 @@
 //! The first byte by which each single move of a paragraph may lose its description.
 
 ghost use Rattle.std.specs.Prelude.{◌≡◌, ◌<◌, ◌∷◌, ℕ, List, IfOk, OnOk, length, map, reverse};
+ghost use Rattle.cob_copybook_tree.specs.Forests.{Forest};
 ghost use Rattle.cob_copybook_tree.specs.Lengths.{greatest_number, sum_of};
+ghost use Rattle.cob_copybook_tree.specs.Nodes.{Resolved};
 ghost use Rattle.cob_back_moves.specs.Brought.{singles_in};
 ghost use Rattle.cob_back_moves.specs.Tested.{layout_records};
 ghost use Rattle.cob_back_losses.specs.Keeping.{IsMarked};
-ghost use Rattle.cob_back_losses.specs.Moved.{TellsEach, Moved, TellsOf, moved_single};
+ghost use Rattle.cob_back_losses.specs.Moved.{Moved, StandsAt, TellsEach, TellsOf, moved_single};
 ghost use Rattle.cob_back_losses.specs.Seen.{AreEnds, MarkCoveredBytes, TellsIn, seen_single};
 
 use crate::entries::entry_in;
@@ -14,7 +16,7 @@ use crate::later::{cover, covered_front, note_covered, place_of, uncovered, unkn
 use crate::lost::description_lost_behind;
 use crate::singles::{JudgedSingle, singles_of};
 use cob_back_moves::MovesBetween;
-use cob_layout::Layout;
+use cob_layout::{Layout, Place};
 use std::alloc::{AllocError, Global};
 
 /// The first byte by which a single move may lose its description, where these bytes from its receiver's beginning on are covered, among them the first ones,
@@ -38,8 +40,38 @@ fn lost_among(
     description_lost_behind(alloc, &from, to, covered, front)
 }
 
+/// Marks the bytes that a single move to this place covers, of which the first ones, so many, are covered already: all of them, and none where a part receives.
+fn cover_by(
+    single: &JudgedSingle<'_>,
+    place: Place,
+    front: usize,
+    covered: &mut [bool],
+    ends: &mut [usize],
+)
+    requires fits { place.offset + place.length ≤ length covered.old }
+    requires within { front ≤ place.length }
+    requires front { (at : ℕ) → at < front → IsMarked covered.old (place.offset + at) }
+    requires known { AreEnds covered.old ends.old }
+    requires ends { length ends.old ≡ length covered.old }
+    ensures marks { (tree : Forest Resolved) (later : List Moved)
+        → StandsAt tree (seen_single single.now).receiver place
+        → MarkCoveredBytes tree later covered.old
+        → MarkCoveredBytes tree (seen_single single.now ∷ later) covered.new }
+    ensures room { length covered.new ≡ length covered.old }
+    ensures known { AreEnds covered.new ends.new }
+    ensures ends { length ends.new ≡ length ends.old }
+{
+    match single.part {
+        None => {
+            cover(covered, place, front);
+            note_covered(ends, place, front);
+        }
+        Some(_) => {}
+    }
+}
+
 /// The first byte by which a single move may lose its description, where the marked bytes of the record are covered by those behind it, as is known of these
-/// ends. Then its own are marked too.
+/// ends. Then those that it covers are marked too.
 fn lost_before(
     alloc: Global,
     output: &Layout,
@@ -66,8 +98,7 @@ fn lost_before(
     let start = place.offset as usize;
     let front = covered_front(ends, place);
     let lost = lost_among(alloc, output, single, &covered[start..], front)?;
-    cover(covered, place, front);
-    note_covered(ends, place, front);
+    cover_by(single, place, front, covered, ends);
     Ok(lost)
 }
 

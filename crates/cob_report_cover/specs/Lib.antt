@@ -1,3 +1,4 @@
+pub mod Meant
 pub mod Losing
 pub mod Gathered
 pub mod Covered

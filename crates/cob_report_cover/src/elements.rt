@@ -5,10 +5,10 @@ use cob_copybook_tree::Value;
 use cob_layout::Layout;
 use cob_move_data::{Element, Sent};
 use cob_report_lossless::named_in;
-use cob_report_words::{ConstantText, DescribedText, PictureText};
+use cob_report_words::{CharactersText, ConstantText, DescribedText, PictureText};
 use std::fmt;
 
-/// Writes an occurrence with its picture, where it has one, and what stands behind that.
+/// Writes an occurrence with its picture, where it or the part of it that is meant has one, and what stands behind that.
 pub(crate) fn write_pictured<W: fmt::Write>(
     f: &mut fmt::Formatter<W>,
     layout: &Layout,
@@ -17,6 +17,10 @@ pub(crate) fn write_pictured<W: fmt::Write>(
 ) -> fmt::Result {
     let named = named_in(layout, element);
     write!(f, "{named}")?;
+    if let Some(part) = element.part {
+        let picture = CharactersText { count: part.length };
+        return write!(f, ", PIC {picture}{behind}");
+    }
     match named.item() {
         None => Ok(()),
         Some(item) => {

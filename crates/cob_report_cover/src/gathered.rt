@@ -1,12 +1,13 @@
-//! The places of the occurrences that moves send and receive.
+//! The places of the occurrences that moves send and receive, and of the parts of them.
 
 ghost use Rattle.std.specs.Prelude.{◌≡◌, ◌++◌, [], ◌∷◌, map, OnOk, IfOk};
 ghost use Rattle.std.specs.List.{flat_map};
 ghost use Rattle.cob_back_moves.specs.Brought.{moves_between};
-ghost use Rattle.cob_move_data.specs.Singles.{plain_element, plain_sent, senders_of, singles_of};
-ghost use Rattle.cob_report_cover.specs.Gathered.{Gathers, Joins, input_occurrence, received_in, sent_in};
+ghost use Rattle.cob_move_data.specs.Singles.{plain_sent, senders_of, singles_of};
+ghost use Rattle.cob_report_cover.specs.Gathered.{Gathers, Joins, input_meant, receiver_meant, received_in, sent_in};
+ghost use Rattle.cob_report_cover.specs.Meant.{plain_meant};
 
-use cob_back_losses::place_of;
+use crate::meant::place_meant;
 use cob_back_moves::MovesBetween;
 use cob_layout::{Layout, Place};
 use cob_move_data::{Element, Senders, Sent, Side, Singles, StatementMoves};
@@ -20,12 +21,12 @@ fn push_place(places: &mut Vec<Place>, place: Place) -> Result<(), AllocError>
     Ok(())
 }
 
-/// Adds the place of an occurrence.
+/// Adds the place of an occurrence, or of the part of it that is meant.
 fn add(layout: &Layout, element: Element<'_>, places: &mut Vec<Place>) -> Result<(), AllocError>
     ensures { OnOk result (Joins layout.now places.old.items places.new.items
-        (plain_element element.entry ∷ [])) }
+        (plain_meant element.entry ∷ [])) }
 {
-    match place_of(layout, element.number, element.subscripts) {
+    match place_meant(layout, element) {
         Some(place) => push_place(places, place),
         None => Ok(()),
     }
@@ -34,7 +35,7 @@ fn add(layout: &Layout, element: Element<'_>, places: &mut Vec<Place>) -> Result
 /// Adds the place of what is sent, where it is of the input record.
 fn add_sent(layout: &Layout, sent: Sent<'_>, places: &mut Vec<Place>) -> Result<(), AllocError>
     ensures { OnOk result (Joins layout.now places.old.items places.new.items
-        (input_occurrence (plain_sent sent.entry))) }
+        (input_meant (plain_sent sent.entry))) }
 {
     match sent {
         Sent::Constant(_) => Ok(()),
@@ -52,7 +53,7 @@ fn places_received(
     statements: &[StatementMoves],
 ) -> Result<Vec<Place>, AllocError>
     ensures { IfOk result (λ places. Gathers layout.now places.items
-        (map (λ s. s.receiver) (singles_of statements.now))) }
+        (map receiver_meant (singles_of statements.now))) }
 {
     let mut places = Vec::new(alloc);
     for single in Singles::new(statements) {
@@ -68,7 +69,7 @@ fn places_sent(
     statements: &[StatementMoves],
 ) -> Result<Vec<Place>, AllocError>
     ensures { IfOk result (λ places. Gathers layout.now places.items
-        (flat_map input_occurrence (senders_of statements.now))) }
+        (flat_map input_meant (senders_of statements.now))) }
 {
     let mut places = Vec::new(alloc);
     for sent in Senders::new(statements) {

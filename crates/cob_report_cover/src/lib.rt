@@ -49,6 +49,7 @@ mod gathered;
 mod items;
 mod losses;
 mod marks;
+mod meant;
 mod moves;
 mod numbers;
 mod occurrences;

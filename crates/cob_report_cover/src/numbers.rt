@@ -5,11 +5,11 @@ ghost use Rattle.std.specs.Bool.{Decides};
 ghost use Rattle.cob_report_cover.specs.Numbers.{MayHaveNoNumber, has_characters};
 
 use crate::elements::{write_element, write_sent};
+use crate::losses::entry_at;
 use cob_back_moves::BothLayouts;
 use cob_copybook_tree::Kind;
 use cob_move_data::Sent;
 use cob_report_lossless::LinedSingle;
-use cob_report_words::entry_of;
 use std::fmt;
 
 /// A single move of characters to a number.
@@ -44,9 +44,9 @@ pub(crate) fn told_numberless<'a>(
     let Sent::Entry { side, entry } = single.sent else {
         return None;
     };
-    let from = entry_of(layouts.of(side).root(), entry.number)?;
-    let to = entry_of(layouts.output.root(), single.receiver.number)?;
-    if !may_have_no_number(&from.kind, &to.kind) {
+    let from = entry_at(layouts.of(side), entry)?;
+    let to = entry_at(layouts.output, single.receiver)?;
+    if !may_have_no_number(from.kind.get(), to.kind.get()) {
         return None;
     }
     Some(Numberless {

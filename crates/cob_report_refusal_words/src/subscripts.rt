@@ -181,22 +181,28 @@ pub(crate) fn told_subscripts<'a>(both: BothWords<'_>, statement: &'a [Token]) -
     )
 }
 
-/// What is told of a statement with a part that its item hasn't.
-pub(crate) fn told_part(statement: &[Token]) -> Told<'_> {
+/// The words from the bracket on that opens the part, where the statement has one part, and else all of the statement's.
+fn part_of(statement: &[Token]) -> &[Token] {
     let mut part = statement;
+    let mut open: usize = 0;
+    let mut parts: usize = 0;
     for (at, word) in statement.iter().enumerate() {
+        if is_term(word, WordClass::OpenBracket) {
+            open = at;
+        }
         if is_that_word(word, b":") {
-            part = behind_many(statement, at.saturating_sub(2));
-            break;
+            part = behind_many(statement, open);
+            parts = parts.saturating_add(1);
         }
     }
-    advised(
-        Caret::under_first(part),
-        Phrase::plain(
-            "the item hasn't this part: a number that is not DISPLAY and a group that varies have none, and others from their first character to their last",
-        ),
-        Phrase::plain(
-            "write (start:length) with a start from 1 that ends within the item, in each turn of a loop; move a packed or binary number to a DISPLAY one first",
-        ),
+    if parts == 1 { part } else { statement }
+}
+
+/// What is told of a statement with a part that its item hasn't.
+pub(crate) fn told_part(statement: &[Token]) -> Told<'_> {
+    advised_plainly(
+        part_of(statement),
+        "the item hasn't this part: a packed or binary number and a group that varies have none, and others from their first character to their last",
+        "write (start:length) with a start from 1 that ends within the item, in each turn of a loop; move a packed or binary number to a DISPLAY one first",
     )
 }

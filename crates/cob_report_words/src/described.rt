@@ -2,9 +2,11 @@
 
 use crate::items::ItemText;
 use crate::names::NamedOccurrence;
+use crate::pictures::CharactersText;
 use std::fmt;
 
-/// An occurrence of an entry with what it is, an item or a group. It prints as `DD OF D OF R, PIC 99`, and as `D OF R, group`.
+/// An occurrence of an entry with what it is, an item or a group. It prints as `DD OF D OF R, PIC 99`, and as `D OF R, group`; a part of one as
+/// `D OF R (1:4), PIC X(4)`.
 #[derive(Clone, Copy)]
 pub struct DescribedText<'s, 'a> {
     pub named: &'s NamedOccurrence<'a>,
@@ -21,6 +23,10 @@ impl fmt::Display for DescribedText<'_, '_> {
     fn fmt<W: fmt::Write>(&self, f: &mut fmt::Formatter<W>) -> fmt::Result {
         let named = self.named;
         write!(f, "{named}")?;
+        if let Some(part) = named.part() {
+            let picture = CharactersText { count: part.length };
+            return write!(f, ", PIC {picture}");
+        }
         match named.item() {
             None => write!(f, ", group"),
             Some(item) => write!(f, ", {}", ItemText { item }),

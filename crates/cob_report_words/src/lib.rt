@@ -28,4 +28,4 @@ pub use described::{DescribedText, GotText};
 pub use items::ItemText;
 pub use names::{NamedOccurrence, Subscripts, entry_of, item_of, write_part, write_subscripts};
 pub use occurrences::{advance, first_subscripts, tables_over};
-pub use pictures::PictureText;
+pub use pictures::{CharactersText, PictureText};

@@ -9,7 +9,8 @@ use std::fmt;
 /// The subscripts of an occurrence, the outermost first.
 pub type Subscripts = ArrayVec<u32, MAX_SUBSCRIPTS>;
 
-/// An occurrence of an entry of a record. It prints as its name, those of the groups that hold it, and its subscripts: `E OF T OF R (1, 2)`.
+/// An occurrence of an entry of a record. It prints as its name, those of the groups that hold it, and its subscripts: `E OF T OF R (1, 2)`. Behind it stands
+/// the part that is meant, as `E OF T OF R (1, 2) (3:4)`.
 #[derive(Drop)]
 pub struct NamedOccurrence<'a> {
     root: &'a Node,
@@ -64,6 +65,11 @@ impl<'a> NamedOccurrence<'a> {
     pub fn parted(mut self, part: Option<ItemPart>) -> NamedOccurrence<'a> {
         self.part = part;
         self
+    }
+
+    /// The part of it that is meant. None where all of it is.
+    pub fn part(&self) -> Option<ItemPart> {
+        self.part
     }
 
     /// The item that the entry is; None where a part of it is meant, which is its characters.

@@ -9,6 +9,12 @@ pub struct PictureText<'a> {
     pub picture: &'a Picture,
 }
 
+/// The picture of so many characters, which prints as that of an item `X(n)` of them.
+#[derive(Clone, Copy)]
+pub struct CharactersText {
+    pub count: u32,
+}
+
 /// The characters of a symbol.
 fn characters_of(symbol: Symbol) -> &'static str {
     match symbol {
@@ -40,6 +46,15 @@ fn write_run<W: fmt::Write>(f: &mut fmt::Formatter<W>, run: Run) -> fmt::Result 
         return write!(f, "{characters}");
     }
     write!(f, "{characters}({})", run.count)
+}
+
+impl fmt::Display for CharactersText {
+    fn fmt<W: fmt::Write>(&self, f: &mut fmt::Formatter<W>) -> fmt::Result {
+        match self.count {
+            1 => write!(f, "X"),
+            count => write!(f, "X({count})"),
+        }
+    }
 }
 
 impl fmt::Display for PictureText<'_> {

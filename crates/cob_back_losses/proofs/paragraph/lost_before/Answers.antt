@@ -3,7 +3,7 @@ use Rattle.std.proofs.lemmas.List.{take_rest}
 use Rattle.cob_back_losses.specs.Keeping.{IsMarked}
 use Rattle.cob_back_losses.specs.Seen.{TellsIn, seen_single}
 use Rattle.cob_back_losses.proofs.CoveredLemmas.{told_of}
-use Rattle.cob_back_losses.proofs.EndLemmas.{front_drop, more_marks, place_marked}
+use Rattle.cob_back_losses.proofs.EndLemmas.{front_drop}
 use Rattle.cob_back_losses.proofs.paragraph.lost_before.Goals as goal
 
 -- the bytes of the receiver that are known to be covered, as what is sliced has them
@@ -13,8 +13,8 @@ lost_among-requires c = λ at lt. subst
     (sym (take_rest c.args.covered.now c.in-Some.place.offset))
     (front_drop c.args.covered.now c.in-Some.place.offset c.covered_front-front.result (c.covered_front-front.ensures.front c.args.covered.now c.requires.known) at lt)
 
-pub cover-requires-clause-front : goal.cover-requires-clause-front
-cover-requires-clause-front c = c.covered_front-front.ensures.front c.args.covered.now c.requires.known
+pub cover_by-requires-clause-front : goal.cover_by-requires-clause-front
+cover_by-requires-clause-front c = c.covered_front-front.ensures.front c.args.covered.now c.requires.known
 
 pub returns-clause-told : goal.returns-clause-told
 returns-clause-told c =
@@ -23,9 +23,5 @@ returns-clause-told c =
     let tells = subst (λ (marks : List Bool). TellsIn tree single marks c.in_ok-lost.lost) (take_rest c.args.covered.now c.in-Some.place.offset) c.in_ok-lost.ensures in
     λ later before. told_of tree single later c.in-Some.place c.args.covered.now c.in_ok-lost.lost c.in-Some.ensures.some before tells
 
-pub returns-clause-known : goal.returns-clause-known
-returns-clause-known c =
-    let place = c.in-Some.place in
-    let before = c.covered_front-front.ensures.ends c.args.covered.now c.requires.known in
-    let more = more_marks c.args.covered.now c.cover.new.marks c.covered_front-front.new.ends place.offset place.length c.cover.ensures.marked before in
-    c.note_covered.ensures.ends c.cover.new.marks more (place_marked c.args.covered.now c.cover.new.marks place.offset place.length c.cover.ensures.marked)
+pub returns-clause-marks : goal.returns-clause-marks
+returns-clause-marks c = λ later before. c.cover_by.ensures.marks c.args.output.now later c.in-Some.ensures.some before
