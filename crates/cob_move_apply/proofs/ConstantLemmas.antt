@@ -5,7 +5,6 @@ use Rattle.cob_copybook_entry.specs.Described.{PlainValue}
 use Rattle.cob_layout.specs.declared.fields.Place.{Place}
 use Rattle.cob_layout.specs.Counting.{ReadsNone, greatest_counts}
 use Rattle.cob_layout.specs.Fields.{with_field}
-use Rattle.cob_layout.specs.Placed.{placed_under}
 use Rattle.cob_layout.specs.Storage.{greatest_length}
 use Rattle.cob_move_data.specs.declared.operands.Side.TheVariants.{Out}
 use Rattle.cob_move_data.specs.declared.operands.Operand.{Operand}
@@ -15,7 +14,7 @@ use Rattle.cob_move_steps.specs.declared.constant_step.ConstantStep.{ConstantSte
 use Rattle.cob_move_steps.proofs.PoolLemmas.{read_at}
 use Rattle.cob_move_receive.specs.Sent as sent
 use Rattle.cob_move_apply.specs.Applied.{Applied, Content, Ending, IsMoved, done, stopped}
-use Rattle.cob_move_apply.specs.Located.{Located}
+use Rattle.cob_move_apply.specs.Located.{Located, operand_under}
 use Rattle.cob_move_apply.specs.Made.{IsMadeConstant, ReceivesAt}
 use Rattle.cob_move_apply.specs.Met.{HaveMet}
 use Rattle.cob_move_apply.specs.Placed.{IsBasis, IsFixed}
@@ -51,7 +50,7 @@ fixed_constant r to constant q gets = record {
       );
 }
 
-pub ready : (r : Records) (receiver : Ref) (to : Place) (constant : PlainValue) (k : Kind) → ReadsNone r.output receiver.node true → placed_under (greatest_counts r.output) r.output receiver ≡ Some (Ok to)
+pub ready : (r : Records) (receiver : Ref) (to : Place) (constant : PlainValue) (k : Kind) → ReadsNone r.output receiver.node true → operand_under (greatest_counts r.output) r.output (operand_in r.output receiver) ≡ Some (Ok to)
     → to.offset + to.length ≤ greatest_length r.output → k ≡ (operand_in r.output receiver).kind → IsFixedConstant r to constant k (alone (Literal constant) (operand_in r.output receiver) ∷ [])
 ready r receiver to constant k leaves gets fits k_is =
     let q : Operand = operand_in r.output receiver in

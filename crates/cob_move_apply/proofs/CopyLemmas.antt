@@ -8,7 +8,6 @@ use Rattle.cob_copybook_tree.specs.Forests.{Forest}
 use Rattle.cob_copybook_tree.specs.Nodes.{Resolved}
 use Rattle.cob_layout.specs.declared.fields.Place.{Place}
 use Rattle.cob_layout.specs.Fields.{field_of, with_field}
-use Rattle.cob_layout.specs.Laws.{LieInStorage}
 use Rattle.cob_layout.specs.Storage.{greatest_length, IsStorage}
 use Rattle.cob_layout.proofs.KeepLaw.{as_many_with}
 use Rattle.cob_layout_places.specs.Counts.{tables_of}
@@ -21,6 +20,7 @@ use Rattle.cob_move_receive.specs.Received.{Received}
 use Rattle.cob_move_receive.specs.Sent as sent
 use Rattle.cob_move_apply.specs.Applied.{content_at, done}
 use Rattle.cob_move_apply.specs.InPlace.{AppliedInPlace}
+use Rattle.cob_move_apply.specs.Located.{OperandsLieInStorage}
 use Rattle.cob_move_apply.specs.Placed.{IsFixed}
 use Rattle.cob_move_apply.specs.Surveyed.{IsSurvey}
 use Rattle.cob_move_apply.specs.Written.{AreCopied, IsBoth, LeavesCounts}
@@ -136,7 +136,7 @@ copied_both r from to next_from next_to both_from both_to ms ns reads writes one
     }
 
 -- a single move that copies bytes between places that are the same in every storage
-pub copied_one : LieInStorage → (r : Records) (from to : Place) (reading : Reading) (o q : Operand) → IsRecordDescription r.input → IsOperand r.input o → IsFixed r.input false o from
+pub copied_one : OperandsLieInStorage → (r : Records) (from to : Place) (reading : Reading) (o q : Operand) → IsRecordDescription r.input → IsOperand r.input o → IsFixed r.input false o from
     → IsFixed r.output true q to → LeavesCounts r.output to → from.length ≡ to.length → CopiesBytes o.kind q.kind
     → AreCopied r from to ((record { sender = Entry In reading o; receivers = q ∷ [] }) ∷ [])
 copied_one law r from to reading o q described operand sends gets leaves same copies = record {
@@ -164,4 +164,4 @@ copied_one law r from to reading o q described operand sends gets leaves same co
     reach : (input : List ℕ) → IsStorage r.input input → from.offset + from.length ≤ length input
     reach input is =
         let (counts, needs, stands) = sends.place In input in
-        law r.input input counts o.entry.node o.entry.subscripts.items from described is operand.refers needs stands
+        law r.input input counts o from described is operand needs stands

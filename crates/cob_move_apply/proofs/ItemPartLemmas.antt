@@ -10,6 +10,7 @@ use Rattle.cob_layout_places.specs.Counts.{kind_in}
 use Rattle.cob_layout.specs.declared.fields.Place.{Place}
 use Rattle.cob_layout.specs.declared.layout.PlaceFault.{PlaceFault}
 use Rattle.cob_layout.specs.Finding.{IsFound}
+use Rattle.cob_layout.specs.Laws.{LieInStorage}
 use Rattle.cob_layout.specs.Placed.{placed_under}
 use Rattle.cob_layout.proofs.StorageLemmas.{found_by}
 use Rattle.cob_layout_places.specs.Lengths.{FitsInRecord, times}
@@ -20,7 +21,7 @@ use Rattle.cob_layout_places.specs.declared.reference.Ref.{Ref}
 use Rattle.cob_move_data.specs.declared.operands.Operand.{Operand}
 use Rattle.cob_move_data.specs.Moves.{IsOperand, kind_of_part, or_group}
 use Rattle.cob_move_receive.specs.Sent.{Occupies}
-use Rattle.cob_move_apply.specs.Located.{StandsUnder, part_place, part_placed}
+use Rattle.cob_move_apply.specs.Located.{OperandsLieInStorage, StandsUnder, part_place, part_placed}
 
 -- an element of this length has the part that is meant
 abbrev pub HasIt : Option ItemPart → ℕ → Type 0
@@ -52,6 +53,14 @@ part_within (Some p) whole h = omega (arith, h.0, h.1)
 pub part_begins : (part : Option ItemPart) (whole : Place) → whole.offset ≤ (part_place part whole).offset
 part_begins None whole = omega arith
 part_begins (Some p) whole = omega arith
+
+-- an operand that sends lies within the bytes of its storage
+pub operands_lie : CharactersAreBytes → LieInStorage → OperandsLieInStorage
+operands_lie law lie tree bytes counts o p described stored is needs stands =
+    let (whole, there, cut) = whole_of o.entry.part (placed_under counts tree o.entry) p stands in
+    let reach = lie tree bytes counts o.entry.node o.entry.subscripts.items whole described stored is.refers needs there in
+    let has = has_it law tree o.entry o.entry.part counts whole is.parted there in
+    omega (arith, reach, part_within o.entry.part whole has, ap (λ (q : Place). q.offset) cut, ap (λ (q : Place). q.length) cut)
 
 -- ---- what it describes
 

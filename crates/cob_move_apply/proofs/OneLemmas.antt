@@ -1,18 +1,14 @@
 -- Moves end in one way.
 use Rattle.std.proofs.Common.{◌≡◌, ℕ, Bool, true, false, List, [], ◌∷◌, sym, ap, subst, ◌∙◌, inl, inr, Ok, Err, Some, None, Result}
-use Rattle.std.specs.Prelude.{option_map}
 use Rattle.cob_codec.specs.declared.reading.Reading.{Reading}
 use Rattle.cob_copybook_tree.specs.Forests.{Forest}
 use Rattle.cob_copybook_tree.specs.Nodes.{Resolved}
 use Rattle.cob_layout.specs.declared.fields.Place.{Place}
 use Rattle.cob_layout.specs.Fields.{with_field}
 use Rattle.cob_layout_places.specs.declared.counts.CountFault.{CountFault}
-use Rattle.cob_layout_places.specs.Lengths.{times}
-use Rattle.cob_layout_places.specs.Places.{place_of}
 use Rattle.cob_layout.specs.declared.layout.PlaceFault.{PlaceFault}
 use Rattle.cob_layout.specs.Counting.{NeededOf}
 use Rattle.cob_layout.specs.Laws.{OneOfNeeded}
-use Rattle.cob_layout.specs.Placed.{placed}
 use Rattle.cob_move_receive.specs.Received.{Received, OneReceived}
 use Rattle.cob_move_data.specs.declared.operands.Side.{Side}
 use Rattle.cob_move_data.specs.declared.operands.Side.TheVariants.{Out}
@@ -20,7 +16,7 @@ use Rattle.cob_move_data.specs.declared.operands.Operand.{Operand}
 use Rattle.cob_move_apply.specs.declared.stop.Stop.{Stop}
 use Rattle.cob_move_apply.specs.declared.stop.StopCause.TheVariants.{Count, Subscript}
 use Rattle.cob_move_data.specs.Moves.{Sender, Entry, Literal, Move, Records, record_of}
-use Rattle.cob_move_apply.specs.Located.{Located, StandsUnder, stop_at}
+use Rattle.cob_move_apply.specs.Located.{Located, StandsUnder, operand_under, stop_at}
 use Rattle.cob_move_apply.specs.Applied.{AllGet, Applied, Content, Ending, EntryGives, Gets, Gives, IsMoved, OneEnding, content_at, done, stopped, storage_of}
 
 some_is : {A : Type 0} (a b : A) → Some a ≡ Some b → a ≡ b
@@ -39,7 +35,7 @@ ok_not a b e = cc
 
 one_standing : (t : Forest Resolved) (o : Operand) (c d : List ℕ) (a b : Result Place PlaceFault) → c ≡ d → StandsUnder t o c a → StandsUnder t o d b → a ≡ b
 one_standing t o c d a b same x y =
-    some_is a b (sym x ∙ ap (λ (k : List ℕ). option_map placed (place_of (times k) o.entry.node t 0 0 o.entry.subscripts.items)) same ∙ y)
+    some_is a b (sym x ∙ ap (λ (k : List ℕ). operand_under k t o) same ∙ y)
 
 same_counts : OneOfNeeded → (t : Forest Resolved) (receiving : Bool) (o : Operand) (bytes c d : List ℕ)
     → NeededOf t o.entry.node receiving bytes (Ok c) → NeededOf t o.entry.node receiving bytes (Ok d) → c ≡ d

@@ -5,7 +5,6 @@ use Rattle.cob_codec.specs.declared.reading.Reading.TheVariants.{Pictured}
 use Rattle.cob_copybook.specs.Books.{IsRecordDescription}
 use Rattle.cob_copybook_tree.specs.declared.node.Kind.{Kind}
 use Rattle.cob_layout.specs.Fields.{field_of}
-use Rattle.cob_layout.specs.Laws.{LieInStorage}
 use Rattle.cob_layout.specs.Storage.{greatest_length, IsStorage}
 use Rattle.cob_move_data.specs.declared.operands.Operand.{Operand}
 use Rattle.cob_move_data.specs.declared.operands.StatementMoves.{StatementMoves}
@@ -18,7 +17,7 @@ use Rattle.cob_move_steps.specs.declared.pictured.PicturedSteps.{PicturedSteps}
 use Rattle.cob_move_receive.specs.Received.{Received, outcome}
 use Rattle.cob_move_receive.specs.Sent as sent
 use Rattle.cob_move_apply.specs.Applied.{Applied, Ending, IsMoved, done, stopped}
-use Rattle.cob_move_apply.specs.Located.{stop_at}
+use Rattle.cob_move_apply.specs.Located.{OperandsLieInStorage, stop_at}
 use Rattle.cob_move_apply.specs.Made.{IsMadePictured}
 use Rattle.cob_move_apply.specs.Planned.{AreFixedPlaces}
 use Rattle.cob_move_apply.specs.Steps.{IsPicturedMove, IsPicturedPart, copied_move}
@@ -34,7 +33,7 @@ use Rattle.cob_move_apply.proofs.PreparedLemmas.{ends_there, fixed_move, kinds_o
 use Rattle.cob_move_apply.proofs.ReceiverLemmas.{put_is}
 use borrow.Rule.Slice.PartMut.{put_mid}
 
-pub pictured : LieInStorage → (r : Records) (steps : PicturedSteps) (step : PicturedStep) (sent receiver : Ref) (p : MovePlaces) (k l : Kind) → IsRecordDescription r.input → IsOperand r.input (operand_in r.input sent)
+pub pictured : OperandsLieInStorage → (r : Records) (steps : PicturedSteps) (step : PicturedStep) (sent receiver : Ref) (p : MovePlaces) (k l : Kind) → IsRecordDescription r.input → IsOperand r.input (operand_in r.input sent)
     → AreFixedPlaces In r sent receiver p
     → k ≡ (operand_in r.input sent).kind → l ≡ (operand_in r.output receiver).kind → IsPicturedStep steps (kinds_of k l p.from p.to) step
     → IsPicturedMove r steps (record { places = p; step = step }) (copied_move In Pictured r sent receiver ∷ [])

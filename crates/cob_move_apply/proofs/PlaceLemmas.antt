@@ -14,6 +14,7 @@ use Rattle.cob_layout_places.specs.Lengths.{times}
 use Rattle.cob_layout_places.specs.Places.{place_of, or_else, choose}
 use Rattle.cob_layout_places.specs.Counts.{kind_in, tables_of}
 use Rattle.cob_layout.proofs.CountLemmas.{found_size, pairs_in}
+use Rattle.cob_layout_places.specs.declared.reference.ItemPart.{ItemPart}
 use Rattle.cob_layout_places.specs.declared.reference.Ref.{Ref}
 use Rattle.cob_layout.specs.declared.finding.FindFault.{FindFault}
 use Rattle.cob_layout.specs.declared.finding.FindFault.TheVariants as finding
@@ -51,7 +52,7 @@ storable_choose : (b : Bool) (q : Kind) (o : Option Kind) (k : Kind) → IsStora
 storable_choose true q o k s h e = let same : q ≡ k = cc in subst IsStorableKind same s
 storable_choose false q o k s h e = h k e
 
-pub storable_in : (number : ℕ) (f : Forest Resolved) → AreStorable f → (k : Kind) → kind_in number f ≡ Some k → IsStorableKind k
+storable_in : (number : ℕ) (f : Forest Resolved) → AreStorable f → (k : Kind) → kind_in number f ≡ Some k → IsStorableKind k
 storable_in number NoEntries s k e = cc
 storable_in number (AnEntry e children more) s k is =
     storable_or (choose (e.number == number) e.kind (kind_in number children)) (kind_in number more) k
@@ -64,7 +65,7 @@ filled_by : (k : Kind) (n : ℕ) → IsStorableKind k → ((i : Item) → k ≡ 
 filled_by Group n s h = tt
 filled_by (ItemKind i) n s h = (h i refl, s)
 
-pub filled : (t : Forest Resolved) (number : ℕ) (counts subscripts : List ℕ) (k : Kind) (p : Place) → IsSound t → kind_in number t ≡ Some k
+filled : (t : Forest Resolved) (number : ℕ) (counts subscripts : List ℕ) (k : Kind) (p : Place) → IsSound t → kind_in number t ≡ Some k
     → option_map placed (place_of (times counts) number t 0 0 subscripts) ≡ Some (Ok p) → Occupies k p.length
 filled t number counts subscripts k p sound is stands =
     let (f, found, there, offset, size) = found_by (place_of (times counts) number t 0 0 subscripts) p stands in
@@ -72,13 +73,27 @@ filled t number counts subscripts k p sound is stands =
     (λ i item. size ∙ found_size (kind_in number t) (place_of (times counts) number t 0 0 subscripts) i f (pairs_in (times counts) number t 0 0 subscripts)
     (is ∙ ap (λ (q : Kind). Some q) item) found)
 
-pub filled_at : (side : Side) (t : Forest Resolved) (receiving : Bool) (o : Operand) (bytes : List ℕ) (p : Place) → IsSound t → IsOperand t o
-    → Located side t receiving o bytes (Ok p) → Occupies o.kind p.length
-filled_at side t receiving o bytes p sound is (counts, needs, stands) =
+-- an operand can be stored, all of its element or a part
+pub storable_of : (t : Forest Resolved) (o : Operand) → IsSound t → IsOperand t o → IsStorableKind o.kind
+storable_of t o sound is =
+    let (k, has, kind) = own_kind o.entry.part (kind_in o.entry.node t) o.kind is.is in
+    subst IsStorableKind kind (storable_part o.entry.part k (storable_in o.entry.node t sound.storable k has))
+  where
+    storable_part : (part : Option ItemPart) (k : Kind) → IsStorableKind k → IsStorableKind (kind_of_part part k)
+    storable_part None k h = h
+    storable_part (Some p) k h = refl
+
+-- where it stands it has its bytes
+pub filled_under : (t : Forest Resolved) (o : Operand) (counts : List ℕ) (p : Place) → IsSound t → IsOperand t o → StandsUnder t o counts (Ok p) → Occupies o.kind p.length
+filled_under t o counts p sound is stands =
     let (whole, there, cut) = whole_of o.entry.part (placed_under counts t o.entry) p stands in
     let (k, has, kind) = own_kind o.entry.part (kind_in o.entry.node t) o.kind is.is in
     let all : Occupies k whole.length = filled t o.entry.node counts o.entry.subscripts.items k whole sound has there in
     subst (λ (q : Kind). Occupies q p.length) kind (subst (λ (q : Place). Occupies (kind_of_part o.entry.part k) q.length) (sym cut) (filled_part o.entry.part k whole all))
+
+pub filled_at : (side : Side) (t : Forest Resolved) (receiving : Bool) (o : Operand) (bytes : List ℕ) (p : Place) → IsSound t → IsOperand t o
+    → Located side t receiving o bytes (Ok p) → Occupies o.kind p.length
+filled_at side t receiving o bytes p sound is (counts, needs, stands) = filled_under t o counts p sound is stands
 
 -- ---- what a layout finds
 

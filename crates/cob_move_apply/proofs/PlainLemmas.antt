@@ -6,8 +6,6 @@ use Rattle.cob_copybook_tree.specs.declared.node.Kind.{Kind}
 use Rattle.cob_layout.specs.declared.fields.Place.{Place}
 use Rattle.cob_layout.specs.declared.layout.PlaceFault.{PlaceFault}
 use Rattle.cob_layout.specs.Counting.{ReadsNone, greatest_counts}
-use Rattle.cob_layout.specs.Laws.{LieInStorage}
-use Rattle.cob_layout.specs.Placed.{placed_under}
 use Rattle.cob_layout.specs.Storage.{greatest_length}
 use Rattle.cob_layout_places.specs.Counts.{tables_of}
 use Rattle.cob_move_data.specs.declared.operands.Side.TheVariants.{In, Out}
@@ -17,6 +15,7 @@ use Rattle.cob_layout_places.specs.declared.varying.Table.{Table}
 use Rattle.cob_move_data.specs.Moves.{Entry, IsOperand, Literal, Records, Sender, operand_in}
 use Rattle.cob_move_receive.specs.Copying.{CopiesBytes, copies_bytes}
 use Rattle.cob_move_apply.specs.Joined.{copy_between, neither_varies, plain_copy}
+use Rattle.cob_move_apply.specs.Located.{OperandsLieInStorage, operand_under}
 use Rattle.cob_move_apply.specs.Steps.{copied_move}
 use Rattle.cob_move_apply.specs.Written.{AreCopied}
 use Rattle.cob_move_apply.specs.declared.step.MovePlaces.{MovePlaces}
@@ -37,9 +36,9 @@ neither r e =
     let (a, b) = both (length (tables_of r.input) == 0) (length (tables_of r.output) == 0) e in
     (none_of (tables_of r.input) a, none_of (tables_of r.output) b)
 
-pub copied : LieInStorage → (r : Records) (sent receiver : Ref) (from to : Place) (k l : Kind) (reading : Reading) → IsRecordDescription r.input → neither_varies r ≡ true → IsOperand r.input (operand_in r.input sent)
-    → ReadsNone r.input sent.node false → placed_under (greatest_counts r.input) r.input sent ≡ Some (Ok from) → from.offset + from.length ≤ greatest_length r.input
-    → ReadsNone r.output receiver.node true → placed_under (greatest_counts r.output) r.output receiver ≡ Some (Ok to) → to.offset + to.length ≤ greatest_length r.output
+pub copied : OperandsLieInStorage → (r : Records) (sent receiver : Ref) (from to : Place) (k l : Kind) (reading : Reading) → IsRecordDescription r.input → neither_varies r ≡ true → IsOperand r.input (operand_in r.input sent)
+    → ReadsNone r.input sent.node false → operand_under (greatest_counts r.input) r.input (operand_in r.input sent) ≡ Some (Ok from) → from.offset + from.length ≤ greatest_length r.input
+    → ReadsNone r.output receiver.node true → operand_under (greatest_counts r.output) r.output (operand_in r.output receiver) ≡ Some (Ok to) → to.offset + to.length ≤ greatest_length r.output
     → from.length ≡ to.length → k ≡ (operand_in r.input sent).kind → l ≡ (operand_in r.output receiver).kind → CopiesBytes k l → AreCopied r from to (copied_move In reading r sent receiver ∷ [])
 copied law r sent receiver from to k l reading described none operand reads sends from_fits leaves gets to_fits same k_is l_is copies =
     copied_one law r from to reading (operand_in r.input sent) (operand_in r.output receiver) described operand
@@ -56,20 +55,20 @@ same_length : (from to : Place) (b : Bool) → (from.length == to.length) ≡ b 
 same_length from to b e = ap (λ (x : Bool). if x then Some (record { from = from; to = to }) else None) e
 
 pub value_is : (r : Records) (sent receiver : Ref) (from to : Place) (k l : Kind) (reading : Reading) (b : Bool) → neither_varies r ≡ true
-    → placed_under (greatest_counts r.input) r.input sent ≡ Some (Ok from) → placed_under (greatest_counts r.output) r.output receiver ≡ Some (Ok to)
+    → operand_under (greatest_counts r.input) r.input (operand_in r.input sent) ≡ Some (Ok from) → operand_under (greatest_counts r.output) r.output (operand_in r.output receiver) ≡ Some (Ok to)
     → k ≡ (operand_in r.input sent).kind → l ≡ (operand_in r.output receiver).kind → copies_bytes k l ≡ b
     → plain_copy r (Entry In reading (operand_in r.input sent)) (operand_in r.output receiver) ≡ by_test b (Some (Ok from)) (Some (Ok to))
 value_is r sent receiver from to k l reading b none sends gets k_is l_is copies =
     let test : neither_varies r && copies_bytes (operand_in r.input sent).kind (operand_in r.output receiver).kind ≡ b =
     ap (λ (x : Bool). x && copies_bytes (operand_in r.input sent).kind (operand_in r.output receiver).kind) none
     ∙ ap (λ (x : Kind). copies_bytes x (operand_in r.output receiver).kind) (sym k_is) ∙ ap (copies_bytes k) (sym l_is) ∙ copies in
-    ap (λ (x : Bool). by_test x (placed_under (greatest_counts r.input) r.input sent) (placed_under (greatest_counts r.output) r.output receiver)) test
-    ∙ ap (λ (p : Option (Result Place PlaceFault)). by_test b p (placed_under (greatest_counts r.output) r.output receiver)) sends
+    ap (λ (x : Bool). by_test x (operand_under (greatest_counts r.input) r.input (operand_in r.input sent)) (operand_under (greatest_counts r.output) r.output (operand_in r.output receiver))) test
+    ∙ ap (λ (p : Option (Result Place PlaceFault)). by_test b p (operand_under (greatest_counts r.output) r.output (operand_in r.output receiver))) sends
     ∙ ap (λ (p : Option (Result Place PlaceFault)). by_test b (Some (Ok from)) p) gets
 
 -- the answer where the lengths are the same or not
 pub value_some : (r : Records) (sent receiver : Ref) (from to : Place) (k l : Kind) (reading : Reading) → neither_varies r ≡ true
-    → placed_under (greatest_counts r.input) r.input sent ≡ Some (Ok from) → placed_under (greatest_counts r.output) r.output receiver ≡ Some (Ok to)
+    → operand_under (greatest_counts r.input) r.input (operand_in r.input sent) ≡ Some (Ok from) → operand_under (greatest_counts r.output) r.output (operand_in r.output receiver) ≡ Some (Ok to)
     → k ≡ (operand_in r.input sent).kind → l ≡ (operand_in r.output receiver).kind → (from.length == to.length) ≡ true → copies_bytes k l ≡ true
     → Some (record { from = from; to = to }) ≡ plain_copy r (Entry In reading (operand_in r.input sent)) (operand_in r.output receiver)
 value_some r sent receiver from to k l reading none sends gets k_is l_is same copies =
@@ -84,7 +83,7 @@ no_length from to true e = same_length from to false (first (from.length == to.l
     first false e = refl
 
 pub value_none : (r : Records) (sent receiver : Ref) (from to : Place) (k l : Kind) (reading : Reading) (b : Bool) → neither_varies r ≡ true
-    → placed_under (greatest_counts r.input) r.input sent ≡ Some (Ok from) → placed_under (greatest_counts r.output) r.output receiver ≡ Some (Ok to)
+    → operand_under (greatest_counts r.input) r.input (operand_in r.input sent) ≡ Some (Ok from) → operand_under (greatest_counts r.output) r.output (operand_in r.output receiver) ≡ Some (Ok to)
     → k ≡ (operand_in r.input sent).kind → l ≡ (operand_in r.output receiver).kind → copies_bytes k l ≡ b → ((from.length == to.length) && b) ≡ false
     → None ≡ plain_copy r (Entry In reading (operand_in r.input sent)) (operand_in r.output receiver)
 value_none r sent receiver from to k l reading b none sends gets k_is l_is copies other =
@@ -93,6 +92,6 @@ value_none r sent receiver from to k l reading b none sends gets k_is l_is copie
 -- where a record has a table that varies, no move is one
 pub none_varying : (r : Records) (s : Sender) (q : Operand) → neither_varies r ≡ false → None ≡ plain_copy r s q
 none_varying r (Entry In x o) q e =
-    ap (λ (b : Bool). by_test (b && copies_bytes o.kind q.kind) (placed_under (greatest_counts r.input) r.input o.entry) (placed_under (greatest_counts r.output) r.output q.entry)) (sym e)
+    ap (λ (b : Bool). by_test (b && copies_bytes o.kind q.kind) (operand_under (greatest_counts r.input) r.input o) (operand_under (greatest_counts r.output) r.output q)) (sym e)
 none_varying r (Entry Out x o) q e = refl
 none_varying r (Literal c) q e = refl

@@ -6,7 +6,6 @@ use Rattle.cob_copybook_tree.specs.declared.node.Kind.{Kind}
 use Rattle.cob_layout.specs.declared.fields.Place.{Place}
 use Rattle.cob_layout.specs.Counting.{greatest_counts}
 use Rattle.cob_layout.specs.Fields.{field_of, with_field}
-use Rattle.cob_layout.specs.Laws.{LieInStorage}
 use Rattle.cob_layout.specs.Sound.{IsSound}
 use Rattle.cob_move_data.specs.declared.operands.Side.{Side}
 use Rattle.cob_move_data.specs.declared.operands.Side.TheVariants.{In, Out}
@@ -18,8 +17,9 @@ use Rattle.cob_move_steps.specs.declared.pool.MoveStep.{MoveStep}
 use Rattle.cob_move_steps.specs.declared.pool.MoveSteps.{MoveSteps}
 use Rattle.cob_move_receive.specs.Received.{Received, outcome}
 use Rattle.cob_move_receive.specs.Sent as sent
+use Rattle.cob_move_receive.specs.Sent.{Occupies}
 use Rattle.cob_move_apply.specs.Applied.{Applied, content_at, done, stopped, storage_of}
-use Rattle.cob_move_apply.specs.Located.{stop_at}
+use Rattle.cob_move_apply.specs.Located.{OperandsLieInStorage, stop_at}
 use Rattle.cob_move_apply.specs.Made.{IsMadeReady}
 use Rattle.cob_move_apply.specs.Met.{HaveMet}
 use Rattle.cob_move_apply.specs.Placed.{IsFixed}
@@ -31,7 +31,7 @@ use Rattle.cob_move_apply.specs.declared.step.PreparedMove.{PreparedMove}
 use Rattle.cob_move_apply.specs.declared.stop.Stop.{Stop}
 use Rattle.cob_move_apply.specs.declared.stop.StopCause.TheVariants.{NoValue}
 use Rattle.cob_move_apply.proofs.MetLemmas.{met_one, met_there}
-use Rattle.cob_move_apply.proofs.PlaceLemmas.{filled, fixed}
+use Rattle.cob_move_apply.proofs.PlaceLemmas.{filled_under, fixed}
 use Rattle.cob_move_apply.proofs.ReceiverLemmas.{put_is}
 use Rattle.std.proofs.lemmas.List.{drop-take, take-append-drop}
 use borrow.Rule.Slice.PartMut.{put_mid}
@@ -54,13 +54,13 @@ move_ends side r p reading o q sends gets input before None received =
     inr (stop, before, inl (content_at side reading o source p.from, (p.from, sends.place side source, refl), inr (stop, inr (p.to, gets.place Out before, received, refl), refl)), refl)
 
 -- the place of a sender that stands there in every storage lies within each
-lies_within : LieInStorage → (side : Side) (r : Records) (p : Place) (o : Operand) → IsRecordDescription (record_of r side) → IsOperand (record_of r side) o → IsFixed (record_of r side) false o p → LiesInRecord side r p
+lies_within : OperandsLieInStorage → (side : Side) (r : Records) (p : Place) (o : Operand) → IsRecordDescription (record_of r side) → IsOperand (record_of r side) o → IsFixed (record_of r side) false o p → LiesInRecord side r p
 lies_within law In r p o described operand sends input before is size =
     let (counts, needs, stands) = sends.place In input in
-    law r.input input counts o.entry.node o.entry.subscripts.items p described is operand.refers needs stands
+    law r.input input counts o p described is operand needs stands
 lies_within law Out r p o described operand sends input before is size = omega (arith, size, sends.within)
 
-pub fixed_move : LieInStorage → (side : Side) (r : Records) (p : MovePlaces) (reading : Reading) (o q : Operand) → IsRecordDescription (record_of r side) → IsOperand (record_of r side) o → IsFixed (record_of r side) false o p.from
+pub fixed_move : OperandsLieInStorage → (side : Side) (r : Records) (p : MovePlaces) (reading : Reading) (o q : Operand) → IsRecordDescription (record_of r side) → IsOperand (record_of r side) o → IsFixed (record_of r side) false o p.from
     → IsFixed r.output true q p.to → IsFixedMove side reading r p (kinds_of o.kind q.kind p.from p.to) (alone (Entry side reading o) q ∷ [])
 fixed_move law side r p reading o q described operand sends gets = record {
   single = (alone (Entry side reading o) q, refl);
@@ -77,7 +77,7 @@ fixed_move law side r p reading o q described operand sends gets = record {
       );
 }
 
-pub prepared : LieInStorage → (side : Side) (r : Records) (steps : MoveSteps) (step : MoveStep) (sent receiver : Ref) (p : MovePlaces) (k l : Kind) (reading : Reading) → IsRecordDescription (record_of r side)
+pub prepared : OperandsLieInStorage → (side : Side) (r : Records) (steps : MoveSteps) (step : MoveStep) (sent receiver : Ref) (p : MovePlaces) (k l : Kind) (reading : Reading) → IsRecordDescription (record_of r side)
     → IsOperand (record_of r side) (operand_in (record_of r side) sent) → AreFixedPlaces side r sent receiver p
     → k ≡ (operand_in (record_of r side) sent).kind → l ≡ (operand_in r.output receiver).kind → IsMoveStep steps (kinds_of k l p.from p.to) step
     → IsPreparedMove side reading r steps (record { places = p; step = step }) (copied_move side reading r sent receiver ∷ [])
@@ -95,8 +95,9 @@ pub occupied : (side : Side) (r : Records) (sent receiver : Ref) (p : MovePlaces
     → IsOperand r.output (operand_in r.output receiver) → AreFixedPlaces side r sent receiver p
     → k ≡ (operand_in (record_of r side) sent).kind → l ≡ (operand_in r.output receiver).kind → AreOccupied (kinds_of k l p.from p.to)
 occupied side r sent receiver p k l in_sound out_sound sending receiving stand k_is l_is = record {
-  sender = filled (record_of r side) sent.node (greatest_counts (record_of r side)) sent.subscripts.items k p.from in_sound (sending.is ∙ ap (λ (x : Kind). Some x) (sym k_is)) stand.sends;
-  receiver = filled r.output receiver.node (greatest_counts r.output) receiver.subscripts.items l p.to out_sound (receiving.is ∙ ap (λ (x : Kind). Some x) (sym l_is)) stand.receives;
+  sender = subst (λ (x : Kind). Occupies x p.from.length) (sym k_is)
+      (filled_under (record_of r side) (operand_in (record_of r side) sent) (greatest_counts (record_of r side)) p.from in_sound sending stand.sends);
+  receiver = subst (λ (x : Kind). Occupies x p.to.length) (sym l_is) (filled_under r.output (operand_in r.output receiver) (greatest_counts r.output) p.to out_sound receiving stand.receives);
 }
 
 -- ---- what was carried out

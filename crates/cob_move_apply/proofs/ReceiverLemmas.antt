@@ -30,19 +30,25 @@ put_is place received storage =
     back : (m n : ℕ) → m + n - m ≡ n
     back m n = omega arith
 
--- a receiver got it
-pub got : (t : Forest Resolved) (content : Content) (o : Operand) (before bytes : List ℕ) (p : Place) (n : ℕ) (b : Bool) → Located Out t true o before (Ok p) → n ≡ p.length → b ≡ true
-    → Received content.sent o.kind n (outcome b bytes) → Gets t content o before (Ok (put_mid p.offset (p.offset + p.length - p.offset) before bytes))
-got t content o before bytes p n b at size there h =
+-- a receiver got it, that describes this
+pub got : (t : Forest Resolved) (content : Content) (o : Operand) (k : Kind) (before bytes : List ℕ) (p : Place) (n : ℕ) (b : Bool) → k ≡ o.kind → Located Out t true o before (Ok p) → n ≡ p.length → b ≡ true
+    → Received content.sent k n (outcome b bytes) → Gets t content o before (Ok (put_mid p.offset (p.offset + p.length - p.offset) before bytes))
+got t content o k before bytes p n b is at size there h =
     let Receives : ℕ → Bool → Type 0 = λ m x. Received content.sent o.kind m (outcome x bytes) in
-    (p, bytes, at, subst (λ (m : ℕ). Receives m true) size (subst (λ (x : Bool). Receives n x) there h), put_is p bytes before)
+    (p, bytes, at, subst (λ (m : ℕ). Receives m true) size (subst (λ (x : Bool). Receives n x) there (by_kind h)), put_is p bytes before)
+  where
+    by_kind : Received content.sent k n (outcome b bytes) → Received content.sent o.kind n (outcome b bytes)
+    by_kind r = subst (λ (x : Kind). Received content.sent x n (outcome b bytes)) is r
 
 -- a value is missing
-pub lacks : (t : Forest Resolved) (content : Content) (o : Operand) (before bytes : List ℕ) (p : Place) (n : ℕ) (b : Bool) → Located Out t true o before (Ok p) → n ≡ p.length → b ≡ false
-    → Received content.sent o.kind n (outcome b bytes) → Gets t content o before (Err (stop_at content.side content.offset NoValue))
-lacks t content o before bytes p n b at size no_value h =
+pub lacks : (t : Forest Resolved) (content : Content) (o : Operand) (k : Kind) (before bytes : List ℕ) (p : Place) (n : ℕ) (b : Bool) → k ≡ o.kind → Located Out t true o before (Ok p) → n ≡ p.length → b ≡ false
+    → Received content.sent k n (outcome b bytes) → Gets t content o before (Err (stop_at content.side content.offset NoValue))
+lacks t content o k before bytes p n b is at size no_value h =
     let Receives : ℕ → Bool → Type 0 = λ m x. Received content.sent o.kind m (outcome x bytes) in
-    inr (p, at, subst (λ (m : ℕ). Receives m false) size (subst (λ (x : Bool). Receives n x) no_value h), refl)
+    inr (p, at, subst (λ (m : ℕ). Receives m false) size (subst (λ (x : Bool). Receives n x) no_value (by_kind h)), refl)
+  where
+    by_kind : Received content.sent k n (outcome b bytes) → Received content.sent o.kind n (outcome b bytes)
+    by_kind r = subst (λ (x : Kind). Received content.sent x n (outcome b bytes)) is r
 
 -- ---- one after another
 
@@ -82,16 +88,16 @@ pub stops_first : (r : Records) (side : Side) (x : Reading) (o : Operand) (os : 
 stops_first r side x o os input before stop at = inr (stop, at, refl)
 
 -- the sender's bytes were taken, and the receivers got them
-pub moved : (r : Records) (side : Side) (x : Reading) (o : Operand) (os : List Operand) (input before bytes : List ℕ) (p : Place) (end : Ending)
-    → Located side (record_of r side) false o (storage_of side input before) (Ok p) → bytes ≡ field_of p (storage_of side input before)
-    → AllGet r.output (record { sent = sent.Entry o.kind bytes x; side = side; offset = p.offset }) os before end
+pub moved : (r : Records) (side : Side) (x : Reading) (o : Operand) (k : Kind) (os : List Operand) (input before bytes : List ℕ) (p : Place) (end : Ending)
+    → k ≡ o.kind → Located side (record_of r side) false o (storage_of side input before) (Ok p) → bytes ≡ field_of p (storage_of side input before)
+    → AllGet r.output (record { sent = sent.Entry k bytes x; side = side; offset = p.offset }) os before end
     → IsMoved r (record { sender = Entry side x o; receivers = os }) input before end
-moved r side x o os input before bytes p end at taken h =
-    let content : List ℕ → Content = λ (taken : List ℕ). record { sent = sent.Entry o.kind taken x; side = side; offset = p.offset } in
+moved r side x o k os input before bytes p end is at taken h =
+    let content : Kind → List ℕ → Content = λ (l : Kind) (taken : List ℕ). record { sent = sent.Entry l taken x; side = side; offset = p.offset } in
     inl (
-      content (field_of p (storage_of side input before)),
+      content o.kind (field_of p (storage_of side input before)),
       (p, at, refl),
-      subst (λ (xs : List ℕ). AllGet r.output (content xs) os before end) taken h,
+      subst (λ (xs : List ℕ). AllGet r.output (content o.kind xs) os before end) taken (subst (λ (l : Kind). AllGet r.output (content l bytes) os before end) is h),
     )
 
 -- a move is known by its sender and its receivers

@@ -5,6 +5,7 @@ use Rattle.std.proofs.Math.Nat.{mul-add, mul_comm}
 use Rattle.cob_codec.specs.Readings.{KeepsZones}
 use Rattle.cob_codec.specs.declared.reading.Reading.{Reading}
 use Rattle.cob_codec.specs.declared.reading.Reading.TheVariants.{Pictured}
+use Rattle.cob_copybook_tree.specs.declared.node.Kind.{Kind}
 use Rattle.cob_copybook_tree.specs.Forests.{Forest}
 use Rattle.cob_copybook_tree.specs.Nodes.{Resolved}
 use Rattle.cob_layout.specs.declared.fields.Place.{Place}
@@ -112,13 +113,14 @@ given_spends r s os content input before (Ok a) after old new gives (met, behind
 given_spends r s os content input before (Err stop) after old new gives (met, behind, spent) = (met, λ ms. inr (content, gives, behind r ms input), spent)
 
 -- an entry gives the bytes of its place
-pub entry_spends : {A : Type 0} (r : Records) (side : Side) (x : Reading) (o : Operand) (os : List Operand) (input before bytes : List ℕ) (p : Place) (result : Result A Stop) (after : List ℕ) (old new : Survey)
-    → Located side (record_of r side) false o (storage_of side input before) (Ok p) → bytes ≡ field_of p (storage_of side input before)
-    → ReceiversSpend r.output (record { sent = sent.Entry o.kind bytes x; side = side; offset = p.offset }) os before result after old new
+pub entry_spends : {A : Type 0} (r : Records) (side : Side) (x : Reading) (o : Operand) (k : Kind) (os : List Operand) (input before bytes : List ℕ) (p : Place) (result : Result A Stop) (after : List ℕ) (old new : Survey)
+    → k ≡ o.kind → Located side (record_of r side) false o (storage_of side input before) (Ok p) → bytes ≡ field_of p (storage_of side input before)
+    → ReceiversSpend r.output (record { sent = sent.Entry k bytes x; side = side; offset = p.offset }) os before result after old new
     → MovesSpend r (record { sender = Entry side x o; receivers = os } ∷ []) input before result after old new
-entry_spends r side x o os input before bytes p result after old new at taken h =
+entry_spends r side x o k os input before bytes p result after old new is at taken h =
     given_spends r (Entry side x o) os (content_at side x o (storage_of side input before) p) input before result after old new (p, at, refl)
-    (subst (λ (xs : List ℕ). ReceiversSpend r.output (record { sent = sent.Entry o.kind xs x; side = side; offset = p.offset }) os before result after old new) taken h)
+    (subst (λ (xs : List ℕ). ReceiversSpend r.output (record { sent = sent.Entry o.kind xs x; side = side; offset = p.offset }) os before result after old new) taken
+    (subst (λ (l : Kind). ReceiversSpend r.output (record { sent = sent.Entry l bytes x; side = side; offset = p.offset }) os before result after old new) is h))
 
 -- a move is known by its sender and its receivers
 pub spends_as : {A : Type 0} (r : Records) (m n : Move) (input before : List ℕ) (result : Result A Stop) (after : List ℕ) (old new : Survey) → m ≡ n

@@ -1,5 +1,6 @@
 -- Where an operand stands in a storage, or why it doesn't.
-use Rattle.std.specs.Prelude.{◌≡◌, ◌⊎◌, ℕ, ◌+◌, ◌-◌, ◌<◌, ◌≤◌, Bool, IfSome, List, Option, Some, None, Ok, Err, Result, option_map}
+use Rattle.std.specs.Prelude.{◌≡◌, ◌⊎◌, ℕ, ◌+◌, ◌-◌, ◌≤◌, Bool, false, List, length, Option, Some, None, Ok, Err, Result, option_map}
+use Rattle.cob_copybook.specs.Books.{IsRecordDescription}
 use Rattle.cob_copybook_tree.specs.Forests.{Forest}
 use Rattle.cob_copybook_tree.specs.Nodes.{Resolved}
 use Rattle.cob_layout.specs.declared.fields.Place.{Place}
@@ -10,8 +11,10 @@ use Rattle.cob_layout.specs.declared.finding.FindFault.{FindFault}
 use Rattle.cob_layout.specs.declared.finding.FindFault.TheVariants as finding
 use Rattle.cob_layout.specs.Placed.{placed_under}
 use Rattle.cob_layout.specs.Counting.{NeededOf}
+use Rattle.cob_layout.specs.Storage.{IsStorage}
 use Rattle.cob_move_data.specs.declared.operands.Side.{Side}
 use Rattle.cob_move_data.specs.declared.operands.Operand.{Operand}
+use Rattle.cob_move_data.specs.Moves.{IsOperand}
 use Rattle.cob_move_apply.specs.declared.stop.Stop.{Stop}
 use Rattle.cob_move_apply.specs.declared.stop.StopCause.{StopCause}
 use Rattle.cob_move_apply.specs.declared.stop.StopCause.TheVariants.{Count, Subscript}
@@ -43,11 +46,6 @@ operand_under counts tree o = option_map (part_placed o.entry.part) (placed_unde
 abbrev pub StandsUnder : Forest Resolved → Operand → List ℕ → Result Place PlaceFault → Type 0
 StandsUnder tree o counts there = operand_under counts tree o ≡ Some there
 
--- the element of an operand stands there under these counts, and has the part that is meant
-pub record StandsCut (tree : Forest Resolved) (o : Operand) (counts : List ℕ) (whole : Place) : Type 0 where
-  pub stands : placed_under counts tree o.entry ≡ Some (Ok whole)
-  pub has : IfSome o.entry.part (λ p. (0 < p.start) × (p.start + p.length ≤ whole.length + 1))
-
 -- An operand's place in a storage, sending or receiving: where it stands under the counts that it needs there. The first of these counts that
 -- isn't valid stops at the count's item; and then a subscript past its table's count stops at the place where the element would begin.
 abbrev pub Located : Side → Forest Resolved → Bool → Operand → List ℕ → Result Place Stop → Type 0
@@ -57,3 +55,10 @@ Located side tree receiving o bytes (Err stop) =
     ((f : CountFault) × NeededOf tree o.entry.node receiving bytes (Err f) × (stop ≡ stop_at side f.offset Count))
     ⊎ ((counts : List ℕ) × (f : PlaceFault) × NeededOf tree o.entry.node receiving bytes (Ok counts)
     × StandsUnder tree o counts (Err f) × (stop ≡ stop_at side f.offset Subscript))
+
+-- Law: what an operand that sends finds in a record's bytes, under the counts that it needs there, all of its element or a part, lies within these bytes.
+abbrev pub OperandsLieInStorage : Type 0
+OperandsLieInStorage = (tree : Forest Resolved) (bytes counts : List ℕ) (o : Operand) (p : Place)
+    → IsRecordDescription tree → IsStorage tree bytes → IsOperand tree o
+    → NeededOf tree o.entry.node false bytes (Ok counts) → StandsUnder tree o counts (Ok p)
+    → p.offset + p.length ≤ length bytes

@@ -11,7 +11,7 @@ use Rattle.cob_move_apply.specs.declared.basis.SentEntry.{SentEntry}
 
 -- an operand, with what it describes
 abbrev pub operand_of : PlacedOperand → Operand
-operand_of placed = record { entry = placed.entry.now; kind = placed.kind.now }
+operand_of placed = record { entry = placed.entry.now; kind = placed.kind }
 
 -- what is sent where an entry is, read so
 abbrev pub entry_sent : Reading → Records → SentEntry → Sender

@@ -5,7 +5,7 @@ ghost use Rattle.cob_layout.specs.Sound.{IsSound};
 ghost use Rattle.cob_move_data.specs.Moves.{IsOperand, operand_in};
 ghost use Rattle.cob_move_apply.specs.Seen.{operand_of};
 
-use cob_layout::{Kind, Layout, Place, Ref, SummedPlace};
+use cob_layout::{Layout, Place, Ref, SummedPlace};
 use cob_layout_places::characters_are_few;
 use cob_move_data::{OperandKind, Side};
 
@@ -28,10 +28,10 @@ pub(crate) enum Basis {
 }
 
 /// An operand, with what its place rests on.
-#[derive(Clone, Copy)]
+#[derive(Drop)]
 pub(crate) struct PlacedOperand<'a> {
     pub(crate) entry: &'a Ref,
-    pub(crate) kind: &'a Kind,
+    pub(crate) kind: OperandKind<'a>,
     pub(crate) basis: &'a Basis,
 }
 
@@ -62,15 +62,21 @@ pub fn entry_kind<'a>(layout: &'a Layout, entry: &Ref) -> OperandKind<'a>
     OperandKind::new(entry.part, layout.kind(entry.node))
 }
 
-/// An operand that describes this, with what its place rests on.
+/// The operand that a reference names in the record of a layout, with what its place rests on.
 #[inline(always)]
 pub(crate) fn placed_operand<'a>(
+    layout: &'a Layout,
     entry: &'a Ref,
-    kind: &'a Kind,
     basis: &'a Basis,
 ) -> PlacedOperand<'a>
-    ensures operand { operand_of result ≡ record { entry = entry.now; kind = kind.now } }
+    requires sound { IsSound layout.now }
+    requires operand { IsOperand layout.now (operand_in layout.now entry.now) }
+    ensures operand { operand_of result ≡ operand_in layout.now entry.now }
     ensures basis { result.basis.now ≡ basis.now }
 {
-    PlacedOperand { entry, kind, basis }
+    PlacedOperand {
+        entry,
+        kind: entry_kind(layout, entry),
+        basis,
+    }
 }

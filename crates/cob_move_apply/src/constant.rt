@@ -13,7 +13,7 @@ ghost use Rattle.cob_move_apply.specs.Spent.{IsSpent, PlaceSpends};
 ghost use Rattle.cob_move_apply.specs.Steps.{IsConstantAt};
 ghost use Rattle.cob_move_apply.specs.Surveyed.{IsWorkspace, records};
 
-use crate::basis::{entry_kind, placed_operand};
+use crate::basis::placed_operand;
 use crate::layouts::Layouts;
 use crate::places::{Stored, locate, locate_if_there};
 use crate::step::{ConstantMove, LocatedConstant, Plan};
@@ -104,8 +104,7 @@ pub(crate) fn run_located_constant(
         layout: layouts.output,
         bytes: &*output,
     };
-    let kind = entry_kind(layouts.output, &one.receiver);
-    let receiver = placed_operand(&one.receiver, kind.get(), &one.to);
+    let receiver = placed_operand(layouts.output, &one.receiver, &one.to);
     let Some(to) = locate_if_there(&receiving, &receiver, true, &mut space.output) else {
         return false;
     };
@@ -144,8 +143,7 @@ pub(crate) fn make_located_constant(
         layout: layouts.output,
         bytes: &*output,
     };
-    let kind = entry_kind(layouts.output, &one.receiver);
-    let receiver = placed_operand(&one.receiver, kind.get(), &one.to);
+    let receiver = placed_operand(layouts.output, &one.receiver, &one.to);
     match locate(&receiving, &receiver, true, &mut space.output) {
         Ok(to) => {
             make_there(plan, one, to, layouts, input, output, space);

@@ -5,14 +5,14 @@ ghost use Rattle.cob_limits.specs.Limits.{longest_record};
 ghost use Rattle.cob_layout.specs.Counting.{ReadsNone, greatest_counts};
 ghost use Rattle.cob_layout.specs.Storage.{greatest_length};
 ghost use Rattle.cob_move_data.specs.Moves.{IsOperand, operand_in};
-ghost use Rattle.cob_move_apply.specs.Located.{StandsCut, operand_under, part_place};
+ghost use Rattle.cob_move_apply.specs.Located.{operand_under, part_place};
 
 use cob_layout::{Layout, Place, Ref, records_are_sound};
 use cob_layout_places::{ItemPart, characters_are_bytes};
 
 /// Where a part of an element stands that stands there, or all of it.
 #[inline(always)]
-pub(crate) fn part_place(part: Option<ItemPart>, whole: Place) -> Place
+pub fn part_place(part: Option<ItemPart>, whole: Place) -> Place
     requires part { IfSome part (λ p. (0 < p.start) × (p.start + p.length ≤ whole.length + 1)) }
     requires short { whole.offset + whole.length ≤ longest_record }
     ensures value { result ≡ part_place part whole }

@@ -40,8 +40,11 @@
 //! [`Moves::apply`]; `HaveMet` of specs/Met.antt). [`Scratch::input_length`] keeps the counts that an input's length rests on, [`Moves::apply_kept`] carries
 //! the moves out by them, and [`Scratch::output_length`] tells the output's length by what the moves kept of it; so each count is read once.
 //!
-//! [`Moves::apply`] takes no memory: its room is a [`Scratch`]. [`entry_kind`] is what an entry of a record describes, and [`entry_below`] the entry of a
+//! [`Moves::apply`] takes no memory: its room is a [`Scratch`]. [`entry_kind`] is what an operand of a record describes, and [`entry_below`] the entry of a
 //! pair of two groups, for whoever goes through the moves by themselves; [`Given`] is what a sender gives.
+//!
+//! An operand is an element of a record, or a part of one: an item of its characters, which stands where [`part_place`] cuts it from its element. What has no
+//! part stands where its element does ([`whole_stands`]); an operand that sends lies within the bytes of its storage ([`operands_lie_in_storage`]).
 //!
 //! # Where it is proved
 //!
@@ -95,7 +98,8 @@ pub use cob_layout::{
     tables, times_of, value_of,
 };
 pub use cob_move_data::{Move, NumberedPair, Operand, PairMoves, Sender, Side, StatementMoves};
-pub use laws::{one_ending, whole_stands};
+pub use item_parts::part_place;
+pub use laws::{one_ending, operands_lie_in_storage, whole_stands};
 pub use marked::MarkedMoves;
 pub use moves::Moves;
 pub use pairs::entry_below;

@@ -17,6 +17,7 @@ ghost use Rattle.cob_move_apply.specs.Steps.{IsReadyAnywhere, serves};
 ghost use Rattle.cob_move_apply.specs.Surveyed.{IsSurvey, IsWorkspace, records};
 
 use crate::basis::{PlacedReceivers, SentEntry, entry_kind, placed_operand};
+use crate::laws::operands_lie_in_storage;
 use crate::layouts::Layouts;
 use crate::pictured::run_pictured;
 use crate::places::{Stored, locate_if_there, place_at_once};
@@ -28,7 +29,7 @@ use crate::stop::Stop;
 use crate::survey::Survey;
 use crate::workspace::Workspace;
 use cob_codec::Reading;
-use cob_layout::{Place, field, kept_place_elements, places_lie_in_storage};
+use cob_layout::{Place, field, kept_place_elements};
 use cob_move_data::Side;
 use cob_move_steps::{CharactersStep, MoveStep, PicturedStep};
 use std::slice;
@@ -74,8 +75,7 @@ fn sender_place(
         layout: layouts.input,
         bytes: input,
     };
-    let kind = entry_kind(layouts.input, &one.sent);
-    let sender = placed_operand(&one.sent, kind.get(), &one.from);
+    let sender = placed_operand(layouts.input, &one.sent, &one.from);
     locate_if_there(&sending, &sender, false, survey)
 }
 
@@ -109,8 +109,7 @@ fn receiver_place(
         layout: layouts.output,
         bytes: output,
     };
-    let kind = entry_kind(layouts.output, &one.receiver);
-    let receiver = placed_operand(&one.receiver, kind.get(), &one.to);
+    let receiver = placed_operand(layouts.output, &one.receiver, &one.to);
     locate_if_there(&receiving, &receiver, true, survey)
 }
 
@@ -136,7 +135,7 @@ fn both_places(
     ensures space { IsWorkspace (records layouts.now) input.now output.now space.new }
     ensures spends { IsSpent layouts.now.output.now 0 space.old.output space.new.output }
 {
-    places_lie_in_storage();
+    operands_lie_in_storage();
     let Some(from) = sender_place(one, layouts, input, &mut space.input) else {
         return None;
     };

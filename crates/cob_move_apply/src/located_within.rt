@@ -56,13 +56,11 @@ fn both_within(
         layout: layouts.output,
         bytes: output,
     };
-    let sends = entry_kind(layouts.output, &one.sent);
-    let sender = placed_operand(&one.sent, sends.get(), &one.from);
+    let sender = placed_operand(layouts.output, &one.sent, &one.from);
     let Some(from) = locate_if_there(&stored, &sender, false, &mut space.output) else {
         return None;
     };
-    let receives = entry_kind(layouts.output, &one.receiver);
-    let receiver = placed_operand(&one.receiver, receives.get(), &one.to);
+    let receiver = placed_operand(layouts.output, &one.receiver, &one.to);
     let Some(to) = locate_if_there(&stored, &receiver, true, &mut space.output) else {
         return None;
     };

@@ -124,7 +124,7 @@ impl PlacedEntry {
             layout,
             bytes,
         };
-        let operand = placed_operand(&self.entry, self.kind(layout), &self.basis);
+        let operand = placed_operand(layout, &self.entry, &self.basis);
         locate(&stored, &operand, false, survey)
     }
 

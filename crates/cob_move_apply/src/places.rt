@@ -70,7 +70,7 @@ fn place_by_counts(
         (operand_of operand.now) stored.now.bytes.now result }
     ensures fits { IfOk result
         (λ p. p.offset + p.length ≤ greatest_length stored.now.layout.now) }
-    ensures filled { IfOk result (λ p. Occupies operand.now.kind.now p.length) }
+    ensures filled { IfOk result (λ p. Occupies operand.now.kind p.length) }
     ensures survey { IsSurvey stored.now.layout.now stored.now.bytes.now survey.new }
     ensures spends { Spends stored.now.layout.now 0 result survey.old survey.new }
 {
@@ -186,7 +186,7 @@ pub(crate) fn locate(
         (operand_of placed.now) stored.now.bytes.now result }
     ensures fits { IfOk result
         (λ p. p.offset + p.length ≤ greatest_length stored.now.layout.now) }
-    ensures filled { IfOk result (λ p. Occupies placed.now.kind.now p.length) }
+    ensures filled { IfOk result (λ p. Occupies placed.now.kind p.length) }
     ensures survey { IsSurvey stored.now.layout.now stored.now.bytes.now survey.new }
     ensures spends { Spends stored.now.layout.now 0 result survey.old survey.new }
 {
@@ -212,7 +212,7 @@ fn place_if_there(
         (operand_of operand.now) stored.now.bytes.now (Ok p)) }
     ensures fits { IfSome result
         (λ p. p.offset + p.length ≤ greatest_length stored.now.layout.now) }
-    ensures filled { IfSome result (λ p. Occupies operand.now.kind.now p.length) }
+    ensures filled { IfSome result (λ p. Occupies operand.now.kind p.length) }
     ensures survey { IsSurvey stored.now.layout.now stored.now.bytes.now survey.new }
     ensures spends { IsSpent stored.now.layout.now 0 survey.old survey.new }
 {
@@ -261,7 +261,7 @@ pub(crate) fn locate_if_there(
         (operand_of placed.now) stored.now.bytes.now (Ok p)) }
     ensures fits { IfSome result
         (λ p. p.offset + p.length ≤ greatest_length stored.now.layout.now) }
-    ensures filled { IfSome result (λ p. Occupies placed.now.kind.now p.length) }
+    ensures filled { IfSome result (λ p. Occupies placed.now.kind p.length) }
     ensures survey { IsSurvey stored.now.layout.now stored.now.bytes.now survey.new }
     ensures spends { IsSpent stored.now.layout.now 0 survey.old survey.new }
 {

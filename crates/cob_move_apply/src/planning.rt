@@ -28,6 +28,7 @@ ghost use Rattle.cob_move_steps.specs.Pool.{KeepsSteps};
 use crate::basis::entry_kind;
 use crate::cutting::may_cut_entry;
 use crate::item_parts::fixed_operand;
+use crate::laws::operands_lie_in_storage;
 use crate::pairs::entry_below;
 use crate::preparation::push_bases;
 use crate::ready::{
@@ -38,7 +39,7 @@ use crate::step::{
     ConstantMove, LocatedConstant, LocatedMove, MovePlaces, PicturedMove, Plan, PreparedMove, Step,
     both_copies, part_of, prepared_step, within_step,
 };
-use cob_layout::{Layout, Ref, places_lie_in_storage, records_are_sound, tables};
+use cob_layout::{Layout, Ref, records_are_sound, tables};
 use cob_move_data::{Move, PairMoves, Sender, Side, StatementMoves};
 use cob_move_receive::copies_bytes;
 use cob_move_steps::{MoveSteps, PicturedSteps};
@@ -95,7 +96,7 @@ fn plain_copy(sent: &Ref, receiver: &Ref, both: &Between<'_>) -> Option<MovePlac
     ensures value { (reading : Reading) → result ≡ entry_copy both.now sent.now receiver.now
         reading }
 {
-    places_lie_in_storage();
+    operands_lie_in_storage();
     records_are_sound();
     let _ = both.input.greatest();
     let _ = both.output.greatest();

@@ -13,11 +13,12 @@ ghost use Rattle.cob_move_steps.specs.Pool.{KeepsSteps};
 
 use crate::basis::{Basis, entry_kind};
 use crate::item_parts::fixed_operand;
+use crate::laws::operands_lie_in_storage;
 use crate::pairs::same_entry;
 use crate::planning::Between;
 use crate::preparation::basis_of;
 use crate::step::{LocatedMove, LocatedStep, MovePlaces, PicturedMove, PreparedMove};
-use cob_layout::{Kind, Layout, Place, Ref, Value, places_lie_in_storage, records_are_sound};
+use cob_layout::{Kind, Layout, Place, Ref, Value, records_are_sound};
 use cob_move_data::{Sender, Side};
 use cob_move_steps::{CharactersStep, ConstantStep, MoveSteps, PicturedSteps};
 use std::alloc::{AllocError, Global};
@@ -111,7 +112,7 @@ fn pictured_entry(
         (entry_alone In both.now sent.now receiver.now))) }
     ensures kept { KeepsPictured pictured.old pictured.new }
 {
-    places_lie_in_storage();
+    operands_lie_in_storage();
     records_are_sound();
     let _ = both.input.greatest();
     let _ = both.output.greatest();
@@ -181,7 +182,7 @@ fn prepared_entry(
         (entry_alone side both.now sent.now receiver.now))) }
     ensures kept { KeepsSteps prepared.old prepared.new }
 {
-    places_lie_in_storage();
+    operands_lie_in_storage();
     records_are_sound();
     let sending = layout_of(side, both);
     let _ = sending.greatest();

@@ -11,7 +11,7 @@ ghost use Rattle.cob_move_apply.specs.Seen.{operand_of, receivers_in};
 ghost use Rattle.cob_move_apply.specs.Spent.{ReceiversSpend, ReceiverSpends};
 ghost use Rattle.cob_move_apply.specs.Surveyed.{IsSurvey};
 
-use crate::basis::{PlacedOperand, PlacedReceivers, entry_kind, placed_operand};
+use crate::basis::{PlacedOperand, PlacedReceivers, placed_operand};
 use crate::places::{Stored, locate};
 use crate::stop::{Stop, StopCause};
 use crate::survey::Survey;
@@ -59,7 +59,7 @@ fn receive_one(
     let place = locate(&stored, receiver, true, survey)?;
     let start = place.offset as usize;
     let end = start + place.length as usize;
-    if receive(&given.sent, receiver.kind, &mut output[start..end]) {
+    if receive(&given.sent, receiver.kind.get(), &mut output[start..end]) {
         survey.change(layout, place);
         Ok(())
     } else {
@@ -96,8 +96,7 @@ pub(crate) fn receive_all(
         (receivers_in layout.now receivers.now) output.old result output.new survey.old survey.new }
 {
     for (index, entry) in receivers.entries.iter().enumerate() {
-        let kind = entry_kind(layout, entry);
-        let receiver = placed_operand(entry, kind.get(), &receivers.bases[index]);
+        let receiver = placed_operand(layout, entry, &receivers.bases[index]);
         receive_one(layout, given, &receiver, output, survey)?;
     }
     Ok(())

@@ -12,13 +12,14 @@ ghost use Rattle.cob_move_apply.specs.Promised.{MoveSpends, entry_move, operand_
 ghost use Rattle.cob_move_apply.specs.Seen.{entry_sent, operand_of, receivers_in};
 ghost use Rattle.cob_move_apply.specs.Surveyed.{IsWorkspace, records};
 
-use crate::basis::{Basis, PlacedOperand, PlacedReceivers, SentEntry, entry_kind, placed_operand};
+use crate::basis::{Basis, PlacedOperand, PlacedReceivers, SentEntry, placed_operand};
+use crate::laws::operands_lie_in_storage;
 use crate::layouts::Layouts;
 use crate::places::{Stored, locate};
 use crate::receivers::{Given, receive_all};
 use crate::stop::Stop;
 use crate::workspace::Workspace;
-use cob_layout::{Place, field, places_lie_in_storage};
+use cob_layout::{Place, field};
 use cob_move_data::{Sender, Side};
 use cob_move_receive::Sent;
 
@@ -61,7 +62,7 @@ fn move_from_input(
         input.now output.old result output.new space.old space.new }
 {
     let _ = layouts.input.greatest();
-    places_lie_in_storage();
+    operands_lie_in_storage();
     let stored = Stored {
         side: Side::In,
         layout: layouts.input,
@@ -70,7 +71,7 @@ fn move_from_input(
     let place = locate(&stored, sender, false, &mut space.input)?;
     let given = Given {
         sent: Sent::Entry {
-            kind: sender.kind,
+            kind: sender.kind.get(),
             bytes: field(input, place),
             reading: layouts.reading,
         },
@@ -115,7 +116,7 @@ fn move_within_output(
     copy_field(place, output, space.content.as_mut_slice());
     let given = Given {
         sent: Sent::Entry {
-            kind: sender.kind,
+            kind: sender.kind.get(),
             bytes: &space.content.as_slice()[..place.length as usize],
             reading: layouts.reading,
         },
@@ -155,13 +156,11 @@ pub(crate) fn move_entry(
 {
     match sent.side {
         Side::In => {
-            let kind = entry_kind(layouts.input, sent.entry);
-            let sender = placed_operand(sent.entry, kind.get(), &sent.basis);
+            let sender = placed_operand(layouts.input, sent.entry, &sent.basis);
             move_from_input(&sender, receivers, layouts, input, output, space)
         }
         Side::Out => {
-            let kind = entry_kind(layouts.output, sent.entry);
-            let sender = placed_operand(sent.entry, kind.get(), &sent.basis);
+            let sender = placed_operand(layouts.output, sent.entry, &sent.basis);
             move_within_output(&sender, receivers, layouts, input, output, space)
         }
     }

@@ -14,8 +14,8 @@ returns-then-receive-clause-gets c =
     let start : ℕ = c.in_ok-place.place.offset in
     let end : ℕ = start + c.in_ok-place.place.length in
     let back : end - start ≡ c.in_ok-place.place.length = omega arith in
-    got c.args.layout.now (content_of c.args.given.now) (operand_of c.args.receiver.now) c.args.output.now c.receive.new.bytes c.in_ok-place.place _ c.receive.result
-    c.in_ok-place.ensures.located (mid_len start end c.args.output.now (omega (arith, c.in_ok-place.ensures.fits, c.requires.output)) ∙ back) c.if-receive.true c.receive.ensures.gets
+    got c.args.layout.now (content_of c.args.given.now) (operand_of c.args.receiver.now) c.get.result.now c.args.output.now c.receive.new.bytes c.in_ok-place.place _ c.receive.result
+    c.get.ensures c.in_ok-place.ensures.located (mid_len start end c.args.output.now (omega (arith, c.in_ok-place.ensures.fits, c.requires.output)) ∙ back) c.if-receive.true c.receive.ensures.gets
 
 pub returns-then-receive-clause-survey : goal.returns-then-receive-clause-survey
 returns-then-receive-clause-survey c =
@@ -32,8 +32,8 @@ returns-else-receive-clause-gets c =
     let start : ℕ = c.in_ok-place.place.offset in
     let end : ℕ = start + c.in_ok-place.place.length in
     let back : end - start ≡ c.in_ok-place.place.length = omega arith in
-    lacks c.args.layout.now (content_of c.args.given.now) (operand_of c.args.receiver.now) c.args.output.now c.receive.new.bytes c.in_ok-place.place _ c.receive.result
-    c.in_ok-place.ensures.located (mid_len start end c.args.output.now (omega (arith, c.in_ok-place.ensures.fits, c.requires.output)) ∙ back) c.if-receive.false c.receive.ensures.gets
+    lacks c.args.layout.now (content_of c.args.given.now) (operand_of c.args.receiver.now) c.get.result.now c.args.output.now c.receive.new.bytes c.in_ok-place.place _ c.receive.result
+    c.get.ensures c.in_ok-place.ensures.located (mid_len start end c.args.output.now (omega (arith, c.in_ok-place.ensures.fits, c.requires.output)) ∙ back) c.if-receive.false c.receive.ensures.gets
 
 pub returns-in_err-place-clause-spends : goal.returns-in_err-place-clause-spends
 returns-in_err-place-clause-spends c =

@@ -1,5 +1,7 @@
-use Rattle.std.proofs.Common.{[], ◌∷◌}
+use Rattle.std.proofs.Common.{[], ◌∷◌, subst, sym}
 use Rattle.std.proofs.lemmas.Result.{err_from_is_err_and}
+use Rattle.cob_copybook_tree.specs.declared.node.Kind.{Kind}
+use Rattle.cob_move_receive.specs.Sent.{Occupies}
 use Rattle.cob_move_data.specs.declared.operands.Side.TheVariants.{In}
 use Rattle.cob_move_apply.specs.Applied.{ending}
 use Rattle.cob_move_apply.specs.Surveyed.{records}
@@ -12,15 +14,16 @@ use Rattle.cob_move_apply.proofs.senders.move_from_input.Goals as goal
 pub field-requires : goal.field-requires
 field-requires c =
     let (counts, needs, stands) = c.in_ok-place.ensures.located in
-    c.places_lie_in_storage.ensures c.args.layouts.now.input.now c.args.input.now counts c.args.sender.now.entry.now.node c.args.sender.now.entry.now.subscripts.items c.in_ok-place.place
-    c.greatest.ensures.record c.requires.input c.requires.sender.operand.refers needs stands
+    c.operands_lie_in_storage.ensures c.args.layouts.now.input.now c.args.input.now counts (operand_of c.args.sender.now) c.in_ok-place.place
+    c.greatest.ensures.record c.requires.input c.requires.sender.operand needs stands
 
 pub receive_all-requires-clause-given : goal.receive_all-requires-clause-given
 receive_all-requires-clause-given c =
     let (counts, needs, stands) = c.in_ok-place.ensures.located in
-    complete c.args.sender.now.kind.now c.in_ok-place.place c.args.input.now c.field.result.now c.in_ok-place.ensures.filled
-    (c.places_lie_in_storage.ensures c.args.layouts.now.input.now c.args.input.now counts c.args.sender.now.entry.now.node c.args.sender.now.entry.now.subscripts.items c.in_ok-place.place
-    c.greatest.ensures.record c.requires.input c.requires.sender.operand.refers needs stands)
+    complete c.get.result.now c.in_ok-place.place c.args.input.now c.field.result.now
+    (subst (λ (k : Kind). Occupies k c.in_ok-place.place.length) (sym c.get.ensures) c.in_ok-place.ensures.filled)
+    (c.operands_lie_in_storage.ensures c.args.layouts.now.input.now c.args.input.now counts (operand_of c.args.sender.now) c.in_ok-place.place
+    c.greatest.ensures.record c.requires.input c.requires.sender.operand needs stands)
     c.field.ensures
 
 pub returns-in_err-place-clause-moved : goal.returns-in_err-place-clause-moved
@@ -32,9 +35,9 @@ returns-in_err-place-clause-moved c =
 
 pub returns-clause-moved : goal.returns-clause-moved
 returns-clause-moved c =
-    moved (records c.args.layouts.now) In c.args.layouts.now.reading (operand_of c.args.sender.now) (receivers_in c.args.layouts.now.output.now c.args.receivers.now) c.args.input.now c.args.output.now c.field.result.now
+    moved (records c.args.layouts.now) In c.args.layouts.now.reading (operand_of c.args.sender.now) c.get.result.now (receivers_in c.args.layouts.now.output.now c.args.receivers.now) c.args.input.now c.args.output.now c.field.result.now
     c.in_ok-place.place (ending c.receive_all.result c.receive_all.new.output)
-    c.in_ok-place.ensures.located c.field.ensures c.receive_all.ensures.get
+    c.get.ensures c.in_ok-place.ensures.located c.field.ensures c.receive_all.ensures.get
 
 pub returns-in_err-place-clause-spends : goal.returns-in_err-place-clause-spends
 returns-in_err-place-clause-spends c =
@@ -44,6 +47,6 @@ returns-in_err-place-clause-spends c =
 
 pub returns-clause-spends : goal.returns-clause-spends
 returns-clause-spends c =
-    entry_spends (records c.args.layouts.now) In c.args.layouts.now.reading (operand_of c.args.sender.now) (receivers_in c.args.layouts.now.output.now c.args.receivers.now) c.args.input.now c.args.output.now c.field.result.now
+    entry_spends (records c.args.layouts.now) In c.args.layouts.now.reading (operand_of c.args.sender.now) c.get.result.now (receivers_in c.args.layouts.now.output.now c.args.receivers.now) c.args.input.now c.args.output.now c.field.result.now
     c.in_ok-place.place c.receive_all.result c.receive_all.new.output _ _
-    c.in_ok-place.ensures.located c.field.ensures c.receive_all.ensures.spends
+    c.get.ensures c.in_ok-place.ensures.located c.field.ensures c.receive_all.ensures.spends

@@ -20,10 +20,10 @@ pub returns-clause-moved : goal.returns-clause-moved
 returns-clause-moved c =
     let size : c.args.space.now.content.len ≡ length c.copy_field.new.content =
     omega (arith, c.args.space.now.content.ok.0, c.copy_field.auto.content, ap length c.as_mut_slice.ensures.value) in
-    moved (records c.args.layouts.now) Out c.args.layouts.now.reading (operand_of c.args.sender.now) (receivers_in c.args.layouts.now.output.now c.args.receivers.now) c.args.input.now c.args.output.now
+    moved (records c.args.layouts.now) Out c.args.layouts.now.reading (operand_of c.args.sender.now) c.get.result.now (receivers_in c.args.layouts.now.output.now c.args.receivers.now) c.args.input.now c.args.output.now
     (take c.in_ok-place.place.length c.as_slice.result.now)
     c.in_ok-place.place (ending c.receive_all.result c.receive_all.new.output)
-    c.in_ok-place.ensures.located
+    c.get.ensures c.in_ok-place.ensures.located
     (ap (take c.in_ok-place.place.length) (c.as_slice.ensures.value ∙ front_is c.args.space.now.content.len c.copy_field.new.content _ size) ∙ c.copy_field.ensures)
     c.receive_all.ensures.get
 
@@ -39,9 +39,9 @@ returns-clause-spends c =
     let size : c.args.space.now.content.len ≡ length c.copy_field.new.content =
     omega (arith, c.args.space.now.content.ok.0, c.copy_field.auto.content, ap length c.as_mut_slice.ensures.value) in
     spends_after (records c.args.layouts.now) (m ∷ []) c.args.input.now c.args.output.now c.receive_all.result c.receive_all.new.output _ _ _ c.in_ok-place.ensures.spends
-    (entry_spends (records c.args.layouts.now) Out c.args.layouts.now.reading (operand_of c.args.sender.now) (receivers_in c.args.layouts.now.output.now c.args.receivers.now) c.args.input.now c.args.output.now
+    (entry_spends (records c.args.layouts.now) Out c.args.layouts.now.reading (operand_of c.args.sender.now) c.get.result.now (receivers_in c.args.layouts.now.output.now c.args.receivers.now) c.args.input.now c.args.output.now
     (take c.in_ok-place.place.length c.as_slice.result.now)
     c.in_ok-place.place c.receive_all.result c.receive_all.new.output _ _
-    c.in_ok-place.ensures.located
+    c.get.ensures c.in_ok-place.ensures.located
     (ap (take c.in_ok-place.place.length) (c.as_slice.ensures.value ∙ front_is c.args.space.now.content.len c.copy_field.new.content _ size) ∙ c.copy_field.ensures)
     c.receive_all.ensures.spends)
