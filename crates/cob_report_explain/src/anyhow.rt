@@ -105,5 +105,5 @@ pub(crate) fn takes_anyhow(layout: &Layout, entry: &Ref, given: &Given<'_>) -> b
     requires operand { IsOperand layout.now (operand_in layout.now entry.now) }
     ensures { IsMark (operand_in layout.now entry.now).kind (sent given.now.sent) result }
 {
-    kind_takes(entry_kind(layout, entry), &given.sent)
+    kind_takes(entry_kind(layout, entry).get(), &given.sent)
 }

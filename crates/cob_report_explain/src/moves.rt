@@ -6,6 +6,7 @@ use crate::single::CarriedMove;
 use crate::tests::{TakenTest, TestText, test_text};
 use crate::values::HeldText;
 use crate::watcher::Watcher;
+use cob_copybook_tree::Kind;
 use cob_layout::Place;
 use cob_move_data::Side;
 use cob_move_receive::Sent;
@@ -61,9 +62,14 @@ impl SingleText<'_> {
     /// Writes what receives it, and what that holds then.
     fn write_receiver<W: fmt::Write>(&self, f: &mut fmt::Formatter<W>) -> fmt::Result {
         let receiver = Occurrence::of(self.records, Side::Out, self.one.receiver);
+        // A part is characters, which are told as those of a group are.
+        let characters = Kind::Group;
         let held = HeldText {
             offset: self.one.place.offset,
-            kind: receiver.kind(),
+            kind: match receiver.part {
+                Some(_) => Some(&characters),
+                None => receiver.kind(),
+            },
             bytes: bytes_of(self.one.storage, self.one.place),
         };
         write!(f, "  to {receiver} {held}")

@@ -9,7 +9,8 @@ ghost use Rattle.cob_move_receive.specs.Sent.{Occupies};
 ghost use Rattle.cob_move_apply.specs.Located.{Located};
 
 use cob_layout::{Counts, Layout, Place, Ref};
-use cob_move_apply::{Stop, stop_of};
+use cob_layout_places::characters_are_bytes;
+use cob_move_apply::{Stop, part_place, stop_of};
 use cob_move_data::Side;
 
 /// The storage of the record of one side.
@@ -20,7 +21,7 @@ pub(crate) struct SideStorage<'a> {
     pub(crate) bytes: &'a [u8],
 }
 
-/// Where an entry stands in a storage, sending or receiving, by the counts there that it needs.
+/// Where an entry stands in a storage, or the part of it that is meant, sending or receiving, by the counts there that it needs.
 ///
 /// # Errors
 ///
@@ -43,12 +44,14 @@ pub(crate) fn locate(
         (λ p. Occupies (operand_in stored.now.layout.now entry.now).kind p.length) }
     ensures room { IsRoomFor stored.now.layout.now counts.new }
 {
+    // For what a part asks: its element has a byte for each character.
+    characters_are_bytes();
     let layout = stored.layout;
     let mut reads = 0;
     // What is kept may be of another storage, or of other bytes of this one.
     counts.forget();
     match layout.find(entry, receiving, stored.bytes, counts, &mut reads) {
-        Ok(place) => Ok(place),
+        Ok(whole) => Ok(part_place(entry.part, whole)),
         Err(fault) => Err(stop_of(stored.side, fault)),
     }
 }

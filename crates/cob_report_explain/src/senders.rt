@@ -15,8 +15,8 @@ use crate::places::{SideStorage, locate};
 use crate::room::{EachRoom, RecordLayouts};
 use crate::single::{MoveParts, MoveStop, sender_stop};
 use crate::watcher::Watcher;
-use cob_layout::{Ref, field, places_lie_in_storage};
-use cob_move_apply::{Given, entry_kind};
+use cob_layout::{Ref, field};
+use cob_move_apply::{Given, entry_kind, operands_lie_in_storage};
 use cob_move_data::{Sender, Side};
 use cob_move_receive::Sent;
 
@@ -56,7 +56,7 @@ fn walk_from_input<W: Watcher>(
     ensures room { HasEachRoom (records_of_layouts layouts.now) room.new }
 {
     let _ = layouts.input.greatest();
-    places_lie_in_storage();
+    operands_lie_in_storage();
     let stored = SideStorage {
         side: Side::In,
         layout: layouts.input,

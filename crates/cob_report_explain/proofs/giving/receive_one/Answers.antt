@@ -9,13 +9,13 @@ returns-then-receive-clause-gets c =
     let start : ℕ = c.in-Ok.place.offset in
     let end : ℕ = start + c.in-Ok.place.length in
     let back : end - start ≡ c.in-Ok.place.length = omega arith in
-    got_at c.args.layout.now (content_of c.args.given.now) c.args.entry.now c.args.output.now c.receive.new.bytes c.in-Ok.place c.entry_kind.result.now _ c.receive.result
-    c.in-Ok.ensures.located c.entry_kind.ensures (mid_len start end c.args.output.now (omega (arith, c.in-Ok.ensures.fits, c.requires.output)) ∙ back) c.if-receive.true c.receive.ensures.gets
+    got_at c.args.layout.now (content_of c.args.given.now) c.args.entry.now c.args.output.now c.receive.new.bytes c.in-Ok.place c.get.result.now _ c.receive.result
+    c.in-Ok.ensures.located (c.get.ensures ∙ c.entry_kind.ensures) (mid_len start end c.args.output.now (omega (arith, c.in-Ok.ensures.fits, c.requires.output)) ∙ back) c.if-receive.true c.receive.ensures.gets
 
 pub returns-else-receive-clause-lacks : goal.returns-else-receive-clause-lacks
 returns-else-receive-clause-lacks c =
     let start : ℕ = c.in-Ok.place.offset in
     let end : ℕ = start + c.in-Ok.place.length in
     let back : end - start ≡ c.in-Ok.place.length = omega arith in
-    lacks_value c.args.layout.now (content_of c.args.given.now) c.args.entry.now c.args.output.now c.receive.new.bytes c.in-Ok.place c.entry_kind.result.now _ c.receive.result c.value_lack.result
-    c.in-Ok.ensures.located c.entry_kind.ensures (mid_len start end c.args.output.now (omega (arith, c.in-Ok.ensures.fits, c.requires.output)) ∙ back) c.if-receive.false c.receive.ensures.gets c.value_lack.ensures
+    lacks_value c.args.layout.now (content_of c.args.given.now) c.args.entry.now c.args.output.now c.receive.new.bytes c.in-Ok.place c.get.result.now _ c.receive.result c.value_lack.result
+    c.in-Ok.ensures.located (c.get.ensures ∙ c.entry_kind.ensures) (mid_len start end c.args.output.now (omega (arith, c.in-Ok.ensures.fits, c.requires.output)) ∙ back) c.if-receive.false c.receive.ensures.gets c.value_lack.ensures

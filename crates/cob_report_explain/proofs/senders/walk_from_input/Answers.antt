@@ -1,3 +1,4 @@
+use Rattle.std.proofs.Common.{◌∙◌}
 use Rattle.cob_move_data.specs.declared.operands.Side.TheVariants.{In}
 use Rattle.cob_move_data.specs.Moves.{Entry, operand_in}
 use Rattle.cob_report_explain.specs.Seen.{move_of, records_of_layouts}
@@ -12,13 +13,13 @@ returns-in-Err-clause-seen g c =
 pub field-requires : goal.field-requires
 field-requires g c =
     let (counts, needs, stands) = c.in-Ok.ensures.located in
-    c.places_lie_in_storage.ensures c.args.layouts.now.input.now c.args.input.now counts c.args.entry.now.node c.args.entry.now.subscripts.items c.in-Ok.place
-    c.greatest.ensures.record c.requires.input c.requires.sender.refers needs stands
+    c.operands_lie_in_storage.ensures c.args.layouts.now.input.now c.args.input.now counts (operand_in c.args.layouts.now.input.now c.args.entry.now) c.in-Ok.place
+    c.greatest.ensures.record c.requires.input c.requires.sender needs stands
 
 pub give_all-requires-clause-given : goal.give_all-requires-clause-given
 give_all-requires-clause-given g c =
     let (counts, needs, stands) = c.in-Ok.ensures.located in
-    complete_by c.entry_kind.result.now (operand_in c.args.layouts.now.input.now c.args.entry.now).kind c.in-Ok.place c.args.input.now c.field.result.now c.entry_kind.ensures c.in-Ok.ensures.filled
-    (c.places_lie_in_storage.ensures c.args.layouts.now.input.now c.args.input.now counts c.args.entry.now.node c.args.entry.now.subscripts.items c.in-Ok.place
-    c.greatest.ensures.record c.requires.input c.requires.sender.refers needs stands)
+    complete_by c.get.result.now (operand_in c.args.layouts.now.input.now c.args.entry.now).kind c.in-Ok.place c.args.input.now c.field.result.now (c.get.ensures ∙ c.entry_kind.ensures) c.in-Ok.ensures.filled
+    (c.operands_lie_in_storage.ensures c.args.layouts.now.input.now c.args.input.now counts (operand_in c.args.layouts.now.input.now c.args.entry.now) c.in-Ok.place
+    c.greatest.ensures.record c.requires.input c.requires.sender needs stands)
     c.field.ensures
