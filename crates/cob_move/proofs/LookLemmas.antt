@@ -156,7 +156,7 @@ pub next_sure : OneDeeds → OneListOfEnded → OneReference → (e : Entries) (
 next_sure law ended one e ns l body step number next deepest before size now mid after at adds low own few kept passed p is le many first =
     let a = adds p is in
     let within : many ≤ a.many * suc deepest =
-    late_within (valued_in e) law ended one e.input.now e.output.now (nameable e) ns l p number (l.from + (step + 1)) a.deeds a.many many deepest (plain_so p (low p is).0) (low p is).1 a.are first in
+    late_within (valued_in e) law ended one e.input.now e.output.now (nameable e) ns l p number (l.from + (step + 1)) a.deeds a.many many deepest (low p is).0 (low p is).1 a.are first in
     let product : before * (deepest + 1) ≡ a.many * suc deepest =
     ap (λ (t : ℕ). t * (deepest + 1)) (omega (arith, own, a.longer)) ∙ ap (λ (t : ℕ). a.many * t) (omega arith) in
     omega (arith, within, few, product, reads_same number next size mid after kept passed)

@@ -37,7 +37,7 @@ pub(crate) struct TwoGroups {
 ///
 /// # Errors
 ///
-/// `Unknown`, `Ambiguous`, `Subscripts`, `Receiver` for a reference; `Groups`.
+/// `Unknown`, `Ambiguous`, `Subscripts`, `Part`, `Receiver` for a reference; `Groups`.
 fn groups_of(
     names: &Names<'_>,
     from: &Reference<'_>,

@@ -173,8 +173,8 @@ fn bound_named(entries: &Entries<'_, '_>, words: &[Token]) -> Result<NamedEntry,
         return Err(MoveRule::Grammar);
     };
     let found = entries.named(&reference)?;
-    let kind = entries.kind(found.side, &found.entry);
-    if !is_bound_item(kind.get()) {
+    let own = entries.kind(found.side, &found.entry);
+    if !is_bound_item(own.get()) {
         return Err(MoveRule::Counter);
     }
     Ok(found)
@@ -400,7 +400,7 @@ fn try_turns<'a>(
     // For turns that are sure: words are one list of statements, and one reference.
     one_list_of_ended();
     one_reference();
-    // A turn with a choice is never sure: it is read at once.
+    // A turn with a choice or with a part of an item is never sure: it is read at once.
     let deep = plain_depth(body);
     let mut next = head.from;
     let mut sure = false;

@@ -133,7 +133,7 @@ fn look_at_item<'a>(
         PassageItem::Run(words) => look_at_run(alloc, entries, pairs, words, turn),
         PassageItem::Pause => Ok(()),
         PassageItem::Loop { head, body } => look_at_loop(alloc, entries, pairs, head, body, turn),
-        // A turn is sure to come to few statements only where it has no choice, so nothing is looked at here.
+        // A turn is sure to come to few statements only where it has no choice and no part of an item, so nothing is looked at here.
         PassageItem::Choice { .. } => Ok(()),
         PassageItem::Branch { .. } => Ok(()),
     }

@@ -59,7 +59,7 @@ pub(crate) fn judge(from: &SenderKind<'_>, to: &Kind) -> Result<(), MoveRule>
 ///
 /// # Errors
 ///
-/// `Unknown`, `Ambiguous`, `Subscripts`, `Receiver`; `NotAllowed`, `Literal`, `TooLong`.
+/// `Unknown`, `Ambiguous`, `Subscripts`, `Part`, `Receiver`; `NotAllowed`, `Literal`, `TooLong`.
 fn receiver_of(
     entries: &Entries<'_, '_>,
     from: &Sender,

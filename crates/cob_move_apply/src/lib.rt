@@ -98,7 +98,7 @@ pub use cob_layout::{
     tables, times_of, value_of,
 };
 pub use cob_move_data::{Move, NumberedPair, Operand, PairMoves, Sender, Side, StatementMoves};
-pub use item_parts::part_place;
+pub use item_parts::{fixed_operand, part_place};
 pub use laws::{one_ending, operands_lie_in_storage, whole_stands};
 pub use marked::MarkedMoves;
 pub use moves::Moves;

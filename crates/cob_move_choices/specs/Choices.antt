@@ -69,7 +69,7 @@ joined_test (Some d) c = Either d c
 
 -- ---- which rules it breaks
 
--- Words of an EVALUATE break a rule: a counter is among them, or they name no entry (M1), or the reference breaks M2, M3 or M4.
+-- Words of an EVALUATE break a rule: a counter is among them, or they name no entry (M1), or the reference breaks M2, M3, M4 or M15.
 abbrev pub BreaksEvaluated : MoveRule → Records → List Counted → List Lexeme → Type 0
 BreaksEvaluated r records ns ws =
     ((r ≡ rule.Grammar) × (HasNoCounter ns ws → ⊥))

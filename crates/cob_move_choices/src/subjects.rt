@@ -44,7 +44,7 @@ fn is_truth(words: &[Token]) -> bool
 ///
 /// # Errors
 ///
-/// The rule that the words break: `Grammar`, `Unknown`, `Ambiguous`, `Subscripts`; `Memory`.
+/// The rule that the words break: `Grammar`, `Unknown`, `Ambiguous`, `Subscripts`, `Part`; `Memory`.
 fn evaluated(
     alloc: Global,
     entries: &Entries<'_, '_>,
@@ -90,7 +90,7 @@ fn whole_operand(words: &[Token]) -> Option<Reference<'_>>
 ///
 /// # Errors
 ///
-/// The rule that its words break: `Grammar`, `Unknown`, `Ambiguous`, `Subscripts`; `Memory`.
+/// The rule that its words break: `Grammar`, `Unknown`, `Ambiguous`, `Subscripts`, `Part`; `Memory`.
 pub fn subject_of(
     alloc: Global,
     entries: &Entries<'_, '_>,

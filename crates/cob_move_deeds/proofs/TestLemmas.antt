@@ -1,6 +1,5 @@
 -- A test says one thing of two storages.
 use Rattle.std.proofs.Common.{◌≡◌, ℕ, ◌≤◌, Bool, true, false, List, refl, sym, ap, subst, ◌∙◌, arith, inl, inr, Ok, Err, Result, nat_lt, Some}
-use Rattle.std.specs.Prelude.{option_map}
 use Rattle.cob_copybook_tree.specs.declared.node.Item.{Item}
 use Rattle.cob_copybook_tree.specs.declared.node.Kind.{Kind}
 use Rattle.cob_copybook_tree.specs.declared.node.Kind.TheVariants.{Item as ItemKind}
@@ -10,21 +9,18 @@ use Rattle.cob_layout.specs.declared.fields.Place.{Place}
 use Rattle.cob_layout.specs.declared.layout.PlaceFault.{PlaceFault}
 use Rattle.cob_layout.specs.Counting.{NeededOf}
 use Rattle.cob_layout.specs.Laws.{OneOfNeeded}
-use Rattle.cob_layout.specs.Placed.{placed}
 use Rattle.cob_layout_places.specs.declared.counts.CountFault.{CountFault}
 use Rattle.cob_move_data.specs.declared.operands.Operand.{Operand}
 use Rattle.cob_move_data.specs.declared.operands.Side.{Side}
 use Rattle.cob_move_data.specs.declared.operands.Side.TheVariants.{In}
 use Rattle.cob_layout_places.specs.declared.places.Found.{Found}
 use Rattle.cob_layout_places.specs.declared.varying.Table.{Table}
-use Rattle.cob_layout_places.specs.Lengths.{times}
-use Rattle.cob_layout_places.specs.Places.{place_of}
 use Rattle.cob_layout_places.specs.Counts.{IsFaulty, SaysOfTable, bytes_at}
 use Rattle.cob_move_data.specs.Moves.{Records, record_of}
 use Rattle.cob_layout_places.proofs.CountLemmas.{one_count}
 use Rattle.cob_move_apply.specs.declared.stop.Stop.{Stop}
 use Rattle.cob_move_apply.specs.declared.stop.StopCause.TheVariants.{Count, NoValue, Subscript}
-use Rattle.cob_move_apply.specs.Located.{Located, StandsUnder, stop_at}
+use Rattle.cob_move_apply.specs.Located.{Located, StandsUnder, operand_under, stop_at}
 use Rattle.cob_move_apply.specs.Applied.{Content, storage_of}
 use Rattle.cob_move_apply.proofs.OneLemmas.{ok_is, ok_not, one_given, one_place}
 use Rattle.cob_move_condition.specs.Laws.{GivesOne, LacksOne}
@@ -42,7 +38,7 @@ some_is a b e = cc
 
 one_standing : (tree : Forest Resolved) (o : Operand) (c d : List ℕ) (a b : Result Place PlaceFault) → c ≡ d → StandsUnder tree o c a → StandsUnder tree o d b → a ≡ b
 one_standing tree o c d a b same x y =
-    some_is a b (sym x ∙ ap (λ (k : List ℕ). option_map placed (place_of (times k) o.entry.node tree 0 0 o.entry.subscripts.items)) same ∙ y)
+    some_is a b (sym x ∙ ap (λ (k : List ℕ). operand_under k tree o) same ∙ y)
 
 same_counts : OneOfNeeded → (tree : Forest Resolved) (o : Operand) (bytes c d : List ℕ) → NeededOf tree o.entry.node false bytes (Ok c) → NeededOf tree o.entry.node false bytes (Ok d) → c ≡ d
 same_counts law tree o bytes c d n m = ok_is {E = CountFault} c d (law tree o.entry.node false bytes (Ok c) (Ok d) n m)

@@ -16,7 +16,7 @@ use crate::sides::Sides;
 use cob_copybook_tree::Item;
 use cob_layout::{Kind, Layout, Place, records_are_sound};
 use cob_layout_places::{Found, Table, count_at};
-use cob_move_apply::{Scratch, Stop, StopCause, entry_kind};
+use cob_move_apply::{Scratch, Stop, StopCause};
 use cob_move_data::Side;
 
 /// The number that an item gives for a bound, where it stands there.

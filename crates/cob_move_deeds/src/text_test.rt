@@ -23,7 +23,7 @@ use crate::ready::ReadyDeeds;
 use crate::sides::Sides;
 use cob_copybook_tree::{Kind, Value, is_number};
 use cob_layout::{Layout, Place, field, records_are_sound};
-use cob_move_apply::{PlacedEntry, entry_kind};
+use cob_move_apply::{PlacedEntry, fixed_operand};
 use cob_move_condition::{Comparand, Condition};
 use cob_move_constants::{laid_out, order_of_equals};
 use cob_move_data::Side;
@@ -98,10 +98,10 @@ fn text_place(entry: &PlacedEntry, layout: &Layout) -> Option<Place>
 {
     records_are_sound();
     let _ = layout.greatest();
-    if is_number_kind(entry_kind(layout, entry.entry())) {
+    if is_number_kind(entry.kind(layout).get()) {
         return None;
     }
-    layout.fixed_place(entry.entry(), false)
+    fixed_operand(layout, entry.entry(), false)
 }
 
 /// A comparison of an entry with a constant, made ready; None where that can't be.

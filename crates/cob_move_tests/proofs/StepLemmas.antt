@@ -205,7 +205,8 @@ some_alone (b ∷ bs) e all values w s some broken = broken
 
 some_broken : (e : MoveRule) (all : List Candidate) (values : List (Bearer ValuedEntry)) (w : WrittenReference) → BreaksValues e all values w → 0 < length (conditions_of values w)
 some_broken e all values w (inl (same, some, many)) = some
-some_broken e all values w (inr (same, (b, only, lacks))) = omega (arith, ap length only)
+some_broken e all values w (inr (inl (same, (b, only, lacks)))) = omega (arith, ap length only)
+some_broken e all values w (inr (inr (same, (b, only, whole)))) = omega (arith, ap length only)
 
 pub name_broken : (e : MoveRule) (all : List Candidate) (values : List (Bearer ValuedEntry)) (w : WrittenSender) (s : Stated) → BreaksNamed e all values w → BreaksOperandAlone e all values w s
 name_broken e all values (SentConstant w) s broken = absurd broken

@@ -47,7 +47,7 @@ abbrev pub BreaksLastRelation : MoveRule → List Candidate → WrittenSender �
 BreaksLastRelation r all w NoneStated = BreaksLone r all w
 BreaksLastRelation r all w (StatedAs a last) = BreaksRelation r all a w
 
--- The reference to a condition breaks a rule: it names several, or an entry too (M3), or hasn't the subscripts of the item (M4).
+-- The reference to a condition breaks a rule: it names several, or an entry too (M3), or hasn't the subscripts of the item (M4), or has a part (M15).
 abbrev pub BreaksNamed : MoveRule → List Candidate → List (Bearer ValuedEntry) → WrittenSender → Type 0
 BreaksNamed r all values (SentReference w) = BreaksValues r all values w
 BreaksNamed r all values (SentConstant w) = ⊥

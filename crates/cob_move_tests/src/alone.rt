@@ -77,7 +77,7 @@ fn last_relation(
 ///
 /// # Errors
 ///
-/// `Ambiguous`, `Subscripts`.
+/// `Ambiguous`, `Subscripts`, `Part`.
 fn condition_named<'a>(
     entries: &Entries<'_, 'a>,
     written: &StatementSender<'_>,
@@ -121,7 +121,8 @@ fn holds(
         × (MayHold (valued_item (records_of entries.now) named.entry) → ⊥))) }
 {
     let ValuedItem { item, first, more } = named;
-    if !may_hold(entries.kind(item.side, &item.entry), first, more) {
+    let own = entries.kind(item.side, &item.entry);
+    if !may_hold(own.get(), first, more) {
         return Err(MoveRule::NotComparable);
     }
     let number = asked.len();

@@ -73,7 +73,7 @@ impl Compared {
 ///
 /// # Errors
 ///
-/// `Unknown`, `Ambiguous`, `Subscripts`; `Memory`.
+/// `Unknown`, `Ambiguous`, `Subscripts`, `Part`; `Memory`.
 fn entry_compared(
     entries: &Entries<'_, '_>,
     reference: &Reference<'_>,
@@ -128,7 +128,7 @@ pub fn constant_compared(written: &ValueClause<'_>) -> Result<Value, MoveRule>
 ///
 /// # Errors
 ///
-/// `Unknown`, `Ambiguous`, `Subscripts` for a reference; `Grammar`, `Literal` for a constant; `Memory`.
+/// `Unknown`, `Ambiguous`, `Subscripts`, `Part` for a reference; `Grammar`, `Literal` for a constant; `Memory`.
 pub(crate) fn compared_of(
     entries: &Entries<'_, '_>,
     written: &StatementSender<'_>,

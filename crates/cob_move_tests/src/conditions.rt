@@ -152,7 +152,7 @@ fn quality_at(number: usize, quality: Quality) -> Condition
 ///
 /// # Errors
 ///
-/// `Unknown`, `Ambiguous`, `Subscripts`; `NotComparable`; `Memory`.
+/// `Unknown`, `Ambiguous`, `Subscripts`, `Part`; `NotComparable`; `Memory`.
 fn quality_of(
     alloc: Global,
     entries: &Entries<'_, '_>,
@@ -329,7 +329,7 @@ fn read_condition(
 ///
 /// # Errors
 ///
-/// `Grammar` where the words are no condition, or what is stated lacks a subject; `Unknown`, `Ambiguous`, `Subscripts` for a reference; `Literal` for a
+/// `Grammar` where the words are no condition, or what is stated lacks a subject; `Unknown`, `Ambiguous`, `Subscripts`, `Part` for a reference; `Literal` for a
 /// literal; `NotComparable` for operands that cannot be compared or tested; `Memory`.
 pub fn condition_of(
     alloc: Global,

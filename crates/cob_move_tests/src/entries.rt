@@ -11,7 +11,6 @@ ghost use Rattle.cob_move_tests.specs.Asked.{IsSubscriptedEntry};
 ghost use Rattle.cob_move_tests.specs.Entries.{AllMayBeNamed, NamesAmong, nameable, records_of, valued_in, valued_item};
 
 use cob_copybook_conditions::Span;
-use cob_copybook_tree::Kind;
 use cob_layout::{Layout, records_are_sound};
 use cob_layout_places::{Ref, characters_are_few};
 use cob_move_data::{OperandKind, Side};
@@ -72,7 +71,7 @@ impl<'a> Entries<'_, 'a> {
     ///
     /// # Errors
     ///
-    /// `Unknown`, `Ambiguous`, `Subscripts`.
+    /// `Unknown`, `Ambiguous`, `Subscripts`, `Part`.
     pub fn named(&self, reference: &Reference<'_>) -> Result<NamedEntry, MoveRule>
         requires named { AllMayBeNamed self.now }
         ensures found { IfOk result (λ n. NamesAmong self.now
@@ -98,7 +97,7 @@ impl<'a> Entries<'_, 'a> {
     ///
     /// # Errors
     ///
-    /// `Unknown`, `Ambiguous`, `Subscripts`, `Receiver`.
+    /// `Unknown`, `Ambiguous`, `Subscripts`, `Part`, `Receiver`.
     pub fn named_receiver(&self, reference: &Reference<'_>) -> Result<Ref, MoveRule>
         requires named { AllMayBeNamed self.now }
         ensures found { IfOk result (λ entry. NamesAmong self.now
@@ -120,7 +119,7 @@ impl<'a> Entries<'_, 'a> {
     ///
     /// # Errors
     ///
-    /// `Ambiguous`, `Subscripts`.
+    /// `Ambiguous`, `Subscripts`, `Part`.
     pub fn values(&self, reference: &Reference<'_>) -> Result<Option<ValuedItem<'a>>, MoveRule>
         requires named { AllMayBeNamed self.now }
         ensures found { IfOk result (λ found. IfSome found (λ v. NamesValues (nameable self.now)

@@ -6,7 +6,7 @@
 //! and mean nothing else (`only`); and a refusal is for want of memory, or names a rule that the words break (`fault`; `BreaksConditionWords` of specs/Broken.antt):
 //!
 //! - M1: they are no condition, or a relation lacks its subject where none was stated;
-//! - M2, M3, M4: a reference names no entry, or several, or its subscripts aren't those of the entry's tables;
+//! - M2, M3, M4: a reference names no entry, or several, or its subscripts aren't those of the entry's tables; M15: the entry hasn't the part that is meant;
 //! - M7: a literal has no character, or too many characters or digits;
 //! - M13: two operands may not be compared, or a class or a sign not be asked of an entry (`may_have` of specs/Qualities.antt), or an entry stands alone, or the item of a condition-name not be compared with its values.
 //!

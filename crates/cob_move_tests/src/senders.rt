@@ -40,7 +40,7 @@ pub(crate) fn constant_of(written: &ValueClause<'_>) -> Result<Value, MoveRule>
 ///
 /// # Errors
 ///
-/// `Unknown`, `Ambiguous`, `Subscripts`.
+/// `Unknown`, `Ambiguous`, `Subscripts`, `Part`.
 fn entry_of(entries: &Entries<'_, '_>, reference: &Reference<'_>) -> Result<Sender, MoveRule>
     requires named { AllMayBeNamed entries.now }
     ensures found { IfOk result (λ s. IsSenderAmong entries.now
@@ -61,7 +61,7 @@ fn entry_of(entries: &Entries<'_, '_>, reference: &Reference<'_>) -> Result<Send
 ///
 /// # Errors
 ///
-/// `Unknown`, `Ambiguous`, `Subscripts` for a reference; `Grammar`, `Literal` for a constant.
+/// `Unknown`, `Ambiguous`, `Subscripts`, `Part` for a reference; `Grammar`, `Literal` for a constant.
 pub fn sender_of(
     entries: &Entries<'_, '_>,
     written: &StatementSender<'_>,

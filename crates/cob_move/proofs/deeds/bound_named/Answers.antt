@@ -1,4 +1,4 @@
-use Rattle.std.proofs.Common.{◌≡◌, false, refl, true}
+use Rattle.std.proofs.Common.{◌≡◌, ◌∙◌, false, refl, true}
 use Rattle.std.proofs.lemmas.Result.{err_from_is_err_and}
 use Rattle.cob_source.specs.Tokens.{lexemes}
 use Rattle.cob_move_statements.specs.Written.{written_reference}
@@ -12,9 +12,9 @@ returns-in_err-found-clause-fault c =
 
 pub returns-then-not-is_bound_item-clause-fault : goal.returns-then-not-is_bound_item-clause-fault
 returns-then-not-is_bound_item-clause-fault c =
-    bound_no_number c.args.entries.now (written_reference c.in-Some.reference) (lexemes c.args.words.now) c.in_ok-found.found c.kind.result.now c.in-Some.ensures.found c.in_ok-found.ensures.found c.kind.ensures
+    bound_no_number c.args.entries.now (written_reference c.in-Some.reference) (lexemes c.args.words.now) c.in_ok-found.found c.get.result.now c.in-Some.ensures.found c.in_ok-found.ensures.found (c.get.ensures ∙ c.kind-own.ensures)
     (λ i is. absurd (let never : false ≡ true = c.if-not-is_bound_item.ensures.must i is in cc))
 
 pub returns-clause-found : goal.returns-clause-found
 returns-clause-found c =
-    bound_read c.args.entries.now (written_reference c.in-Some.reference) (lexemes c.args.words.now) c.in_ok-found.found c.kind.result.now c.in-Some.ensures.found c.in_ok-found.ensures.found c.kind.ensures (c.if-not-is_bound_item.ensures.yes refl)
+    bound_read c.args.entries.now (written_reference c.in-Some.reference) (lexemes c.args.words.now) c.in_ok-found.found c.get.result.now c.in-Some.ensures.found c.in_ok-found.ensures.found (c.get.ensures ∙ c.kind-own.ensures) (c.if-not-is_bound_item.ensures.yes refl)

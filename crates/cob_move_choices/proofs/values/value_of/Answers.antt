@@ -18,7 +18,7 @@ returns-then-not-may_compare-clause-fault c =
     let r = records_of c.args.entries.now in
     let n = c.args.entry.now in
     not_comparable r (sender_asked r (Some n)) (written_value c.args.written.now) (plain_value c.in_ok-value.value) ((plain_value c.in_ok-value.value, c.in_ok-value.ensures.found, refl), c.in_ok-value.ensures.some)
-    (entry_compares r n (c.kind.result.now) (plain_value c.in_ok-value.value) false c.kind.ensures (sym c.if-not-may_compare.true ∙ c.may_compare.ensures))
+    (entry_compares r n (c.get.result.now) (plain_value c.in_ok-value.value) false (c.get.ensures ∙ c.kind-own.ensures) (sym c.if-not-may_compare.true ∙ c.may_compare.ensures))
 
 pub returns-clause-found : goal.returns-clause-found
 returns-clause-found c = ((plain_value c.in_ok-value.value, c.in_ok-value.ensures.found, refl), c.in_ok-value.ensures.some)
@@ -27,4 +27,4 @@ pub returns-clause-may : goal.returns-clause-may
 returns-clause-may c =
     let r = records_of c.args.entries.now in
     let n = c.args.entry.now in
-    entry_compares r n (c.kind.result.now) (plain_value c.in_ok-value.value) true c.kind.ensures (sym c.if-not-may_compare.false ∙ c.may_compare.ensures)
+    entry_compares r n (c.get.result.now) (plain_value c.in_ok-value.value) true (c.get.ensures ∙ c.kind-own.ensures) (sym c.if-not-may_compare.false ∙ c.may_compare.ensures)

@@ -13,7 +13,7 @@ pub returns-then-not-may_hold-clause-fault : goal.returns-then-not-may_hold-clau
 returns-then-not-may_hold-clause-fault c =
     let n = c.args.named in
     let r = records_of c.args.entries.now in
-    inr (refl, λ may. c.may_hold.ensures.no c.if-not-may_hold.true (item_may (operand_in (record_of r n.item.side) n.item.entry).kind c.kind.result.now (plain_span n.first.now) (map plain_span n.more.now) (sym c.kind.ensures) may))
+    inr (refl, λ may. c.may_hold.ensures.no c.if-not-may_hold.true (item_may (operand_in (record_of r n.item.side) n.item.entry).kind c.get.result.now (plain_span n.first.now) (map plain_span n.more.now) (sym (c.get.ensures ∙ c.kind-own.ensures)) may))
 
 pub returns-in_err-push-clause-grown : goal.returns-in_err-push-clause-grown
 returns-in_err-push-clause-grown c =
@@ -33,15 +33,15 @@ pub returns-clause-may : goal.returns-clause-may
 returns-clause-may c =
     let n = c.args.named in
     let r = records_of c.args.entries.now in
-    item_may c.kind.result.now (operand_in (record_of r n.item.side) n.item.entry).kind (plain_span n.first.now) (map plain_span n.more.now) c.kind.ensures (c.may_hold.ensures.yes c.if-not-may_hold.false)
+    item_may c.get.result.now (operand_in (record_of r n.item.side) n.item.entry).kind (plain_span n.first.now) (map plain_span n.more.now) (c.get.ensures ∙ c.kind-own.ensures) (c.may_hold.ensures.yes c.if-not-may_hold.false)
 
 pub returns-clause-testable : goal.returns-clause-testable
 returns-clause-testable c =
     let n = c.args.named in
     let r = records_of c.args.entries.now in
     c.in_ok-condition.ensures.testable r c.push.new.self.items
-    (item_valued r c.args.asked.now.items c.push.new.self.items n.item c.len-number.result c.kind.result.now (plain_span n.first.now) (map plain_span n.more.now) (c.len-number.ensures ∙ c.args.asked.now.ok.0) c.in_ok-push.ensures.items
-    c.kind.ensures (c.may_hold.ensures.yes c.if-not-may_hold.false))
+    (item_valued r c.args.asked.now.items c.push.new.self.items n.item c.len-number.result c.get.result.now (plain_span n.first.now) (map plain_span n.more.now) (c.len-number.ensures ∙ c.args.asked.now.ok.0) c.in_ok-push.ensures.items
+    (c.get.ensures ∙ c.kind-own.ensures) (c.may_hold.ensures.yes c.if-not-may_hold.false))
 
 pub returns-clause-grown : goal.returns-clause-grown
 returns-clause-grown c =

@@ -25,7 +25,7 @@ returns-clause-found c =
 
 pub returns-clause-there : goal.returns-clause-there
 returns-clause-there c =
-    entry_there (records_of c.args.entries.now) c.args.asked.now.items c.push.new.self.items c.in_ok-named.named c.len-number.result c.clone-kind.result (c.len-number.ensures ∙ c.args.asked.now.ok.0) c.in_ok-push.ensures.items (c.clone-kind.ensures.same ∙ c.kind.ensures)
+    entry_there (records_of c.args.entries.now) c.args.asked.now.items c.push.new.self.items c.in_ok-named.named c.len-number.result c.clone-kind.result (c.len-number.ensures ∙ c.args.asked.now.ok.0) c.in_ok-push.ensures.items (c.clone-kind.ensures.same ∙ c.get.ensures ∙ c.kind.ensures)
 
 pub returns-clause-grown : goal.returns-clause-grown
 returns-clause-grown c =

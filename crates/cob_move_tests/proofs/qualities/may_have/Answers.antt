@@ -8,4 +8,4 @@ pub returns-in-Class : goal.returns-in-Class
 returns-in-Class c = rw c.in-Class.is c.may_be_of_class.ensures
 
 pub returns-in-Sign : goal.returns-in-Sign
-returns-in-Sign c = rw c.in-Sign.is (c.is_number_kind.ensures ∙ ap (λ (k : Kind). is_number_operand (table.Entry k)) c.kind-kind.ensures)
+returns-in-Sign c = rw c.in-Sign.is (c.is_number_kind.ensures ∙ ap (λ (k : Kind). is_number_operand (table.Entry k)) (c.get-kind.ensures ∙ c.kind-own.ensures))
