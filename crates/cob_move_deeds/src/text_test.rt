@@ -98,7 +98,7 @@ fn text_place(entry: &PlacedEntry, layout: &Layout) -> Option<Place>
 {
     records_are_sound();
     let _ = layout.greatest();
-    if is_number_kind(entry.kind(layout).get()) {
+    if is_number_kind(entry.kind(layout)) {
         return None;
     }
     fixed_operand(layout, entry.entry(), false)
