@@ -35,7 +35,7 @@ use Rattle.cob_back_moves.specs.Wider.{IsReadPictured, IsSameIn, LosesNothing}
 use Rattle.cob_move_data.specs.Singles.{SingleMove, occurrence_of, all_singles}
 use Rattle.cob_back_moves.specs.Singles.{Goes, IsElementary, ReceiveOnce, Receives, SendsPictured}
 use Rattle.cob_back_moves.specs.Returns.{AreTurned, HoldsAgain, BearsName, IsNamedItem, IsReturned, Returns}
-use Rattle.cob_back_moves.proofs.SteadyLemmas.{IsSteady, steady}
+use Rattle.cob_back_moves.proofs.SteadyLemmas.{IsSteady, steady, whole_kind}
 use Rattle.cob_back_moves.proofs.MoveLemmas.{Gained, Ground, IsGood, Puts, all_good, from_puts, goes_through, holds, one_good, puts_length, to_puts}
 
 some_is : {A : Type 0} (a b : A) → Some a ≡ Some b → a ≡ b
@@ -155,19 +155,19 @@ comes_back r s there back input before after trip x i f m good p named at is rea
     let ret : IsReturned (all_singles there) (all_singles back) x i = trip.returns.returned x i named in
     let same : m ≡ ret.home = one_receiver m ret.home (all_singles back) trip.returns.once_back is ret.came (reaches ∙ sym ret.comes.reaches) in
     let out : IsGood r ret.out = one_good r ret.out (all_singles there) ret.sent trip.good in
-    let (p_out, from_out) = steady trip.ground.ends r.input out.from trip.ground.input (trip.ground.sound r.input trip.ground.input) trip.ground.plain_input.steady out.from_is in
-    let (q_out, to_out) = steady trip.ground.ends r.output ret.out.receiver trip.ground.output (trip.ground.sound r.output trip.ground.output) trip.ground.plain_output.steady out.to_is in
+    let (p_out, from_out) = steady trip.ground.ends r.input out.from trip.ground.input (trip.ground.sound r.input trip.ground.input) trip.ground.plain_input.steady out.from_is out.from_whole in
+    let (q_out, to_out) = steady trip.ground.ends r.output ret.out.receiver trip.ground.output (trip.ground.sound r.output trip.ground.output) trip.ground.plain_output.steady out.to_is out.to_whole in
     let out_from : occurrence_of out.from ≡ x = ap occurrence_of (sender_is out.reading ret.goes.reading out.from ret.goes.operand (sym out.sends ∙ ret.goes.sends)) ∙ ret.goes.leaves in
     let home_from : occurrence_of good.from ≡ ret.away =
     ap occurrence_of (sender_is good.reading ret.comes.reading good.from ret.comes.operand (sym good.sends ∙ ap (λ (y : SingleMove). y.sender) same ∙ ret.comes.sends)) ∙ ret.comes.leaves in
     let away : occurrence_of good.from ≡ occurrence_of ret.out.receiver = home_from ∙ sym ret.goes.reaches in
-    let first_item : out.from_item ≡ i = same_kind r.input out.from.entry.node x.number out.from.kind (ItemKind i) out.from_item i (ap (λ (y : Occurrence). y.number) out_from) out.from_is.is named.kind out.from_kind refl in
-    let here : kind_in m.receiver.entry.node r.input ≡ Some m.receiver.kind = kind_tree m.receiver.entry.node r.input s.output trip.turned.ends ∙ good.to_is.is in
+    let first_item : out.from_item ≡ i = same_kind r.input out.from.entry.node x.number out.from.kind (ItemKind i) out.from_item i (ap (λ (y : Occurrence). y.number) out_from) (whole_kind r.input out.from out.from_is out.from_whole) named.kind out.from_kind refl in
+    let here : kind_in m.receiver.entry.node r.input ≡ Some m.receiver.kind = kind_tree m.receiver.entry.node r.input s.output trip.turned.ends ∙ whole_kind s.output m.receiver good.to_is good.to_whole in
     let last_item : good.to_item ≡ i = same_kind r.input m.receiver.entry.node x.number m.receiver.kind (ItemKind i) good.to_item i (ap (λ (y : Occurrence). y.number) reaches) here named.kind good.to_kind refl in
     let out_item : out.to_item ≡ ret.other = item_is out.to_item ret.other (sym out.to_kind ∙ ret.kind) in
-    let sent : kind_in good.from.entry.node r.output ≡ Some good.from.kind = kind_tree good.from.entry.node r.output s.input trip.turned.middle ∙ good.from_is.is in
+    let sent : kind_in good.from.entry.node r.output ≡ Some good.from.kind = kind_tree good.from.entry.node r.output s.input trip.turned.middle ∙ whole_kind s.input good.from good.from_is good.from_whole in
     let home_item : good.from_item ≡ ret.other =
-    same_kind r.output good.from.entry.node ret.out.receiver.entry.node good.from.kind ret.out.receiver.kind good.from_item ret.other (ap (λ (y : Occurrence). y.number) away) sent out.to_is.is good.from_kind ret.kind in
+    same_kind r.output good.from.entry.node ret.out.receiver.entry.node good.from.kind ret.out.receiver.kind good.from_item ret.other (ap (λ (y : Occurrence). y.number) away) sent (whole_kind r.output ret.out.receiver out.to_is out.to_whole) good.from_kind ret.kind in
     let place : p ≡ q_out = same_place s.input r.output good.from ret.out.receiver p q_out (sym trip.turned.middle) from to_out away in
     let gained : Gained r ret.out out p_out input (field_of q_out after) =
     holds r (all_singles there) input before after ret.out out p_out q_out trip.ground trip.good trip.returns.once ret.sent from_out to_out trip.begins trip.puts in
@@ -181,7 +181,7 @@ comes_back r s there back input before after trip x i f m good p named at is rea
     subst (λ (j : Item). Received (SentEntry (ItemKind i) (field_of p_out input) out.reading) (ItemKind j) (item_size j) (Some (field_of q_out after))) out_item
     (subst (λ (j : Item). Received (SentEntry (ItemKind j) (field_of p_out input) out.reading) (ItemKind out.to_item) (item_size out.to_item) (Some (field_of q_out after))) first_item gained) in
     let sound : IsSoundItem i = trip.ground.items r.input x.number i trip.ground.input named.kind in
-    let also : IsSoundItem ret.other = trip.ground.items r.output ret.out.receiver.entry.node ret.other trip.ground.output (out.to_is.is ∙ ap (λ (k : Kind). Some k) ret.kind) in
+    let also : IsSoundItem ret.other = trip.ground.items r.output ret.out.receiver.entry.node ret.other trip.ground.output (whole_kind r.output ret.out.receiver out.to_is out.to_whole ∙ ap (λ (k : Kind). Some k) ret.kind) in
     let (c, back_again, is_same) = trip.items i ret.other out.reading good.reading (field_of p_out input) (field_of q_out after) sound also ret.wide held read read_back arrived in
     let from_here : Received (SentEntry (ItemKind ret.other) (field_of p after) good.reading) (ItemKind i) (item_size i) (Some c) =
     subst (λ (y : Place). Received (SentEntry (ItemKind ret.other) (field_of y after) good.reading) (ItemKind i) (item_size i) (Some c)) (sym place) back_again in
@@ -233,9 +233,9 @@ returns_keep needed ends sound apart fill items law one r s there back input bef
     } in
     let (last, puts) = goes_through s (all_singles back) after start ground_back good_back starts
     (λ m good p is from.
-    let (q, to) = steady ends s.output m.receiver end_is (sound s.output end_is) plain_end.steady good.to_is in
+    let (q, to) = steady ends s.output m.receiver end_is (sound s.output end_is) plain_end.steady good.to_is good.to_whole in
     let refers = refers_tree m.receiver.entry.node m.receiver.entry.subscripts.items s.output r.input (sym turned.ends) good.to_is.refers in
-    let kind = kind_tree m.receiver.entry.node r.input s.output turned.ends ∙ good.to_is.is ∙ ap (λ (k : Kind). Some k) good.to_kind in
+    let kind = kind_tree m.receiver.entry.node r.input s.output turned.ends ∙ whole_kind s.output m.receiver good.to_is good.to_whole ∙ ap (λ (k : Kind). Some k) good.to_kind in
     let at = place_tree m.receiver.entry.node m.receiver.entry.subscripts.items r.input s.output turned.ends ∙ to.found in
     let (c, gained, same) = comes_back r s there back input before after trip (occurrence_of m.receiver) good.to_item (found_place q) m good p
     (record { refers = refers; kind = kind; named = named_one r.input m (all_singles back) is returns.named }) at is refl from in
@@ -248,8 +248,8 @@ returns_keep needed ends sound apart fill items law one r s there back input bef
         λ x i f item at.
             let ret : IsReturned (all_singles there) (all_singles back) x i = returns.returned x i item in
             let good : IsGood s ret.home = one_good s ret.home (all_singles back) ret.came good_back in
-            let (p, from) = steady ends s.input good.from middle_is (sound s.input middle_is) plain_middle.steady good.from_is in
-            let (q, to) = steady ends s.output ret.home.receiver end_is (sound s.output end_is) plain_end.steady good.to_is in
+            let (p, from) = steady ends s.input good.from middle_is (sound s.input middle_is) plain_middle.steady good.from_is good.from_whole in
+            let (q, to) = steady ends s.output ret.home.receiver end_is (sound s.output end_is) plain_end.steady good.to_is good.to_whole in
             let (c, gained, same) = comes_back r s there back input before after trip x i f ret.home good p item at ret.came ret.comes.reaches from in
             let ended : Gained s ret.home good p after (field_of q last) =
             holds s (all_singles back) after start last ret.home good p q ground_back good_back returns.once_back ret.came from to starts puts in

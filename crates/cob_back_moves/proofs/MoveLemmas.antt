@@ -35,8 +35,8 @@ use Rattle.cob_back_moves.specs.Apart.{AreApart, OccurrencesApart, StandsOneWay}
 use Rattle.cob_back_moves.specs.Laws.{IsSoundItem, ItemsAreSound, ItemsFill}
 use Rattle.cob_back_moves.specs.Wider.{IsReadPictured}
 use Rattle.cob_move_data.specs.Singles.{SingleMove, occurrence_of, all_singles, singles_from}
-use Rattle.cob_back_moves.specs.Singles.{IsElementary, IsInputItem, IsItemKind, IsKindReadPictured, IsSenderReadPictured, ReceiveOnce, Receives, SendsPictured}
-use Rattle.cob_back_moves.proofs.SteadyLemmas.{IsSteady, steady}
+use Rattle.cob_back_moves.specs.Singles.{IsElementary, IsInputItem, IsItemKind, IsKindReadPictured, IsSenderReadPictured, IsWholeItem, ReceiveOnce, Receives, SendsPictured}
+use Rattle.cob_back_moves.proofs.SteadyLemmas.{IsSteady, located_still, steady, whole_kind}
 
 -- ---- single moves, one after another
 
@@ -124,11 +124,11 @@ pub record Ground (r : Records) : Type 0 where
   pub plain_input : StandsOneWay r.input
   pub plain_output : StandsOneWay r.output
 
-in_place : (r : Records) (o : Operand) → Ground r → IsOperand r.input o → (p : Place) × IsSteady r.input o p
-in_place r o g is = steady g.ends r.input o g.input (g.sound r.input g.input) g.plain_input.steady is
+in_place : (r : Records) (o : Operand) → Ground r → IsOperand r.input o → o.entry.part ≡ None → (p : Place) × IsSteady r.input o p
+in_place r o g is whole = steady g.ends r.input o g.input (g.sound r.input g.input) g.plain_input.steady is whole
 
-out_place : (r : Records) (o : Operand) → Ground r → IsOperand r.output o → (p : Place) × IsSteady r.output o p
-out_place r o g is = steady g.ends r.output o g.output (g.sound r.output g.output) g.plain_output.steady is
+out_place : (r : Records) (o : Operand) → Ground r → IsOperand r.output o → o.entry.part ≡ None → (p : Place) × IsSteady r.output o p
+out_place r o g is whole = steady g.ends r.output o g.output (g.sound r.output g.output) g.plain_output.steady is whole
 
 item_of : (k : Kind) → IsItemKind k → (i : Item) × (k ≡ ItemKind i)
 item_of Group h = absurd h
@@ -136,11 +136,11 @@ item_of (ItemKind i) h = (i, refl)
 
 given_now : (r : Records) (s : Sender) (input before : List ℕ) → Ground r → IsSender r s → (c : Content) × Gives r s input before (Ok c)
 given_now r (Entry In reading o) input before g is =
-    let (p, at) = in_place r o g is in
-    (content_at In reading o input p, (p, at.located In false input, refl))
+    let (p, at) = located_still g.ends r.input o g.input (g.sound r.input g.input) g.plain_input.steady is in
+    (content_at In reading o input p, (p, at In false input, refl))
 given_now r (Entry Out reading o) input before g is =
-    let (p, at) = out_place r o g is in
-    (content_at Out reading o before p, (p, at.located Out false before, refl))
+    let (p, at) = located_still g.ends r.output o g.output (g.sound r.output g.output) g.plain_output.steady is in
+    (content_at Out reading o before p, (p, at Out false before, refl))
 given_now r (Literal l) input before g is = (record { sent = LiteralSent l; side = Out; offset = 0 }, refl)
 
 pub from_puts : (r : Records) (ms : List Move) (input before after : List ℕ) → Ground r → AreMoves r ms → AllByRecursion IsElementary (all_singles ms) → Puts r (all_singles ms) input before after
@@ -160,7 +160,9 @@ pub record IsGood (r : Records) (s : SingleMove) : Type 0 where
   pub reading : Reading
   pub sends : s.sender ≡ Entry In reading from
   pub from_is : IsOperand r.input from
+  pub from_whole : from.entry.part ≡ None
   pub to_is : IsOperand r.output s.receiver
+  pub to_whole : s.receiver.entry.part ≡ None
   pub from_item : Item
   pub to_item : Item
   pub from_kind : from.kind ≡ ItemKind from_item
@@ -168,7 +170,7 @@ pub record IsGood (r : Records) (s : SingleMove) : Type 0 where
   pub read : IsReadPictured reading from_item
 
 sender_good : (r : Records) (s : Sender) → IsInputItem s → IsSenderReadPictured s → IsSender r s
-    → (reading : Reading) × (o : Operand) × (s ≡ Entry In reading o) × IsOperand r.input o × IsItemKind o.kind × IsKindReadPictured reading o.kind
+    → (reading : Reading) × (o : Operand) × (s ≡ Entry In reading o) × IsOperand r.input o × IsWholeItem o × IsKindReadPictured reading o.kind
 sender_good r (Entry In reading o) item read is = (reading, o, refl, is, item, read)
 sender_good r (Entry Out reading o) item read is = absurd item
 sender_good r (Literal l) item read is = absurd item
@@ -177,14 +179,16 @@ good_one : (r : Records) (s : Sender) (o : Operand) → IsElementary (record { s
     → IsGood r (record { sender = s; receiver = o })
 good_one r s o one read is to =
     let (reading, from, sends, from_is, from_item, from_read) = sender_good r s one.sender read is in
-    let (i, i_is) = item_of from.kind from_item in
-    let (j, j_is) = item_of o.kind one.receiver in
+    let (i, i_is) = item_of from.kind from_item.item in
+    let (j, j_is) = item_of o.kind one.receiver.item in
     record {
       from = from;
       reading = reading;
       sends = sends;
       from_is = from_is;
+      from_whole = from_item.whole;
       to_is = to;
+      to_whole = one.receiver.whole;
       from_item = i;
       to_item = j;
       from_kind = i_is;
@@ -239,7 +243,7 @@ received_of reading k l i j bytes n o e f size h =
 filled : (r : Records) (s : SingleMove) (good : IsGood r s) (p q : Place) (input bytes : List ℕ) → Ground r → IsSteady r.output s.receiver q → Gained r s good p input bytes → length bytes ≡ q.length
 filled r s good p q input bytes g at gained =
     g.fill good.from_item good.to_item good.reading (field_of p input) bytes
-    (g.items r.output s.receiver.entry.node good.to_item g.output (good.to_is.is ∙ ap (λ (k : Kind). Some k) good.to_kind)) gained
+    (g.items r.output s.receiver.entry.node good.to_item g.output (whole_kind r.output s.receiver good.to_is good.to_whole ∙ ap (λ (k : Kind). Some k) good.to_kind)) gained
     ∙ sym (at.size good.to_item good.to_kind)
 
 pub stored_of : (r : Records) (s : SingleMove) (good : IsGood r s) (p q : Place) (input before next : List ℕ) → Ground r → IsSteady r.input good.from p → IsSteady r.output s.receiver q
@@ -302,30 +306,32 @@ pub puts_length : (r : Records) (ss : List SingleMove) (input before after : Lis
     → length after ≡ greatest_length r.output
 puts_length r [] input before after g all size e = ap length e ∙ size
 puts_length r (s ∷ ss) input before after g all size (next, put, rest) =
-    let (from_p, from_at) = in_place r all.0.from g all.0.from_is in
-    let (q, to_at) = out_place r s.receiver g all.0.to_is in
+    let (from_p, from_at) = in_place r all.0.from g all.0.from_is all.0.from_whole in
+    let (q, to_at) = out_place r s.receiver g all.0.to_is all.0.to_whole in
     let st = stored_of r s all.0 from_p q input before next g from_at to_at put in
     puts_length r ss input next after g all.1 (same_length r s all.0 from_p q input before next to_at st size) rest
 
 -- an occurrence, and another operand
-apart_places : (r : Records) (o s : Operand) (i j : Item) (p q : Place) → Ground r → IsOperand r.output o → IsOperand r.output s → o.kind ≡ ItemKind i → s.kind ≡ ItemKind j
+apart_places : (r : Records) (o s : Operand) (i j : Item) (p q : Place) → Ground r → IsOperand r.output o → o.entry.part ≡ None → IsOperand r.output s → s.entry.part ≡ None
+    → o.kind ≡ ItemKind i → s.kind ≡ ItemKind j
     → IsSteady r.output o p → IsSteady r.output s q → (occurrence_of s ≡ occurrence_of o → ⊥) → (q.offset + q.length ≤ p.offset) ⊎ (p.offset + p.length ≤ q.offset)
-apart_places r o s i j p q g o_is s_is o_kind s_kind o_at s_at other =
+apart_places r o s i j p q g o_is o_whole s_is s_whole o_kind s_kind o_at s_at other =
     g.apart r.output s.entry.node o.entry.node s.entry.subscripts.items o.entry.subscripts.items j i
     (record { offset = q.offset; length = q.length; within = true }) (record { offset = p.offset; length = p.length; within = true })
-    g.output g.plain_output.own s_is.refers (s_is.is ∙ ap (λ (k : Kind). Some k) s_kind) o_is.refers (o_is.is ∙ ap (λ (k : Kind). Some k) o_kind) s_at.found o_at.found
+    g.output g.plain_output.own s_is.refers (whole_kind r.output s s_is s_whole ∙ ap (λ (k : Kind). Some k) s_kind)
+    o_is.refers (whole_kind r.output o o_is o_whole ∙ ap (λ (k : Kind). Some k) o_kind) s_at.found o_at.found
     (λ n ss. other (λ x. record { number = n x; subscripts = ss x }))
 
 -- what an occurrence holds stays where none of the moves stores into it
-pub stays : (r : Records) (ss : List SingleMove) (input before after : List ℕ) (o : Operand) (i : Item) (p : Place) → Ground r → AllByRecursion (IsGood r) ss → IsOperand r.output o → o.kind ≡ ItemKind i
-    → IsSteady r.output o p → (Receives (occurrence_of o) ss → ⊥) → length before ≡ greatest_length r.output → Puts r ss input before after → field_of p after ≡ field_of p before
-stays r [] input before after o i p g good is kind at none size e = ap (field_of p) e
-stays r (s ∷ ss) input before after o i p g good is kind at none size (next, put, rest) =
-    let (from_p, from_at) = in_place r good.0.from g good.0.from_is in
-    let (q, to_at) = out_place r s.receiver g good.0.to_is in
+pub stays : (r : Records) (ss : List SingleMove) (input before after : List ℕ) (o : Operand) (i : Item) (p : Place) → Ground r → AllByRecursion (IsGood r) ss → IsOperand r.output o → o.entry.part ≡ None
+    → o.kind ≡ ItemKind i → IsSteady r.output o p → (Receives (occurrence_of o) ss → ⊥) → length before ≡ greatest_length r.output → Puts r ss input before after → field_of p after ≡ field_of p before
+stays r [] input before after o i p g good is whole kind at none size e = ap (field_of p) e
+stays r (s ∷ ss) input before after o i p g good is whole kind at none size (next, put, rest) =
+    let (from_p, from_at) = in_place r good.0.from g good.0.from_is good.0.from_whole in
+    let (q, to_at) = out_place r s.receiver g good.0.to_is good.0.to_whole in
     let st = stored_of r s good.0 from_p q input before next g from_at to_at put in
-    let away = apart_places r o s.receiver i good.0.to_item p q g is good.0.to_is kind good.0.to_kind at to_at (λ e. none (inl e)) in
-    stays r ss input next after o i p g good.1 is kind at (λ h. none (inr h)) (same_length r s good.0 from_p q input before next to_at st size) rest
+    let away = apart_places r o s.receiver i good.0.to_item p q g is whole good.0.to_is good.0.to_whole kind good.0.to_kind at to_at (λ e. none (inl e)) in
+    stays r ss input next after o i p g good.1 is whole kind at (λ h. none (inr h)) (same_length r s good.0 from_p q input before next to_at st size) rest
     ∙ ap (field_of p) st.next_is ∙ beside p.offset p.length q before st.bytes (omega (arith, to_at.within, size)) st.long away
 
 -- behind all moves each receiver holds what it received
@@ -337,12 +343,12 @@ holds r (t ∷ ts) input before after s good p q g all once (inl e) from to size
     let own : Put r s input before next = subst (λ (x : SingleMove). Put r x input before next) (sym e) put in
     let st = stored_of r s good p q input before next g from to own in
     let none : Receives (occurrence_of s.receiver) ts → ⊥ = subst (λ (x : SingleMove). Receives (occurrence_of x.receiver) ts → ⊥) (sym e) once.0 in
-    let kept = stays r ts input next after s.receiver good.to_item q g all.1 good.to_is good.to_kind to none (same_length r s good p q input before next to st size) rest in
+    let kept = stays r ts input next after s.receiver good.to_item q g all.1 good.to_is good.to_whole good.to_kind to none (same_length r s good p q input before next to st size) rest in
     let is : field_of q after ≡ st.bytes = kept ∙ ap (field_of q) st.next_is ∙ there q before st.bytes (omega (arith, to.within, size)) st.long in
     subst (λ (x : List ℕ). Gained r s good p input x) (sym is) st.gained
 holds r (t ∷ ts) input before after s good p q g all once (inr h) from to size (next, put, rest) =
-    let (from_p, from_at) = in_place r all.0.from g all.0.from_is in
-    let (to_q, to_at) = out_place r t.receiver g all.0.to_is in
+    let (from_p, from_at) = in_place r all.0.from g all.0.from_is all.0.from_whole in
+    let (to_q, to_at) = out_place r t.receiver g all.0.to_is all.0.to_whole in
     let st = stored_of r t all.0 from_p to_q input before next g from_at to_at put in
     holds r ts input next after s good p q g all.1 once.1 h from to (same_length r t all.0 from_p to_q input before next to_at st size) rest
 
@@ -352,8 +358,8 @@ pub goes_through : (r : Records) (ss : List SingleMove) (input before : List ℕ
     → (after : List ℕ) × Puts r ss input before after
 goes_through r [] input before g all size able = (before, refl)
 goes_through r (s ∷ ss) input before g all size able =
-    let (p, from) = in_place r all.0.from g all.0.from_is in
-    let (q, to) = out_place r s.receiver g all.0.to_is in
+    let (p, from) = in_place r all.0.from g all.0.from_is all.0.from_whole in
+    let (q, to) = out_place r s.receiver g all.0.to_is all.0.to_whole in
     let (bytes, gained) = able s all.0 p (inl refl) from in
     let put = put_of r s all.0 p q input before bytes from to gained in
     let long = filled r s all.0 p q input bytes g to gained in

@@ -15,16 +15,21 @@ abbrev pub IsItemKind : Kind → Type 0
 IsItemKind Group = ⊥
 IsItemKind (ItemKind i) = Unit {0}
 
+-- an elementary item, and all of it: a part may be one of a group, and stand where items do
+pub record IsWholeItem (o : Operand) : Type 0 where
+  pub item : IsItemKind o.kind
+  pub whole : o.entry.part ≡ None
+
 -- the sender is an item of the input record
 abbrev pub IsInputItem : Sender → Type 0
-IsInputItem (Entry In reading o) = IsItemKind o.kind
+IsInputItem (Entry In reading o) = IsWholeItem o
 IsInputItem (Entry Out reading o) = ⊥
 IsInputItem (Literal c) = ⊥
 
--- A single move is elementary: it sends an item of the input record to an item.
+-- A single move is elementary: it sends an item of the input record to an item, and no part is on either side.
 pub record IsElementary (s : SingleMove) : Type 0 where
   pub sender : IsInputItem s.sender
-  pub receiver : IsItemKind s.receiver.kind
+  pub receiver : IsWholeItem s.receiver
 
 -- what an entry of this kind holds is read as its picture says
 abbrev pub IsKindReadPictured : Reading → Kind → Type 0

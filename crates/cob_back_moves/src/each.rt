@@ -27,7 +27,7 @@ fn all_pass(test: &Test<'_>, layouts: &BothLayouts<'_>, statements: &[StatementM
     true
 }
 
-/// Whether each single move of statements is elementary: it sends an item of the input record to an item. It takes no memory.
+/// Whether each single move of statements is elementary: it sends an item of the input record to an item, no part of one on either side. It takes no memory.
 pub fn are_elementary(layouts: &BothLayouts<'_>, statements: &[StatementMoves]) -> bool
     requires sound { AreSound layouts.now }
     requires moves { AreMovesBetween layouts.now (moves_between layouts.now statements.now) }

@@ -5,7 +5,7 @@ ghost use Rattle.std.specs.Bool.{Decides};
 ghost use Rattle.cob_layout.specs.Sound.{IsSound};
 ghost use Rattle.cob_move_data.specs.Moves.{IsOperand, IsSender, record_of};
 ghost use Rattle.cob_move_data.specs.Singles.{occurrence, operand_at, plain_element, plain_sent, plain_single};
-ghost use Rattle.cob_back_moves.specs.Singles.{IsElementary, IsInputItem, IsSenderReadPictured};
+ghost use Rattle.cob_back_moves.specs.Singles.{IsElementary, IsInputItem, IsSenderReadPictured, IsWholeItem};
 ghost use Rattle.cob_back_moves.specs.Tested.{AreSound, IsSingle, PassesTest, layout_records, sender_of, single_of};
 
 use crate::kinds::{is_item, is_read_pictured};
@@ -88,6 +88,19 @@ pub(crate) fn kind_of<'a>(layout: &'a Layout, element: &Element<'_>) -> OperandK
     OperandKind::new(element.part, layout.kind(element.number))
 }
 
+/// Whether an operand is an elementary item, and all of it.
+fn is_whole_item(layout: &Layout, element: &Element<'_>) -> bool
+    requires sound { IsSound layout.now }
+    requires operand { IsOperand layout.now
+        (operand_at layout.now (plain_element element.now) element.now.part) }
+    ensures { Decides result
+        (IsWholeItem (operand_at layout.now (plain_element element.now) element.now.part)) }
+{
+    let whole = is_whole(element);
+    let item = is_item(kind_of(layout, element).get());
+    item && whole
+}
+
 /// Whether what is sent is an item of the input record.
 fn is_input_item(layouts: &BothLayouts<'_>, sent: &Sent<'_>) -> bool
     requires sound { AreSound layouts.now }
@@ -98,7 +111,7 @@ fn is_input_item(layouts: &BothLayouts<'_>, sent: &Sent<'_>) -> bool
     match sent {
         Sent::Constant(_) => false,
         Sent::Entry { side, entry } => match *side {
-            Side::In => is_item(kind_of(layouts.input, entry).get()),
+            Side::In => is_whole_item(layouts.input, entry),
             Side::Out => false,
         },
     }
@@ -126,7 +139,7 @@ fn is_elementary(layouts: &BothLayouts<'_>, single: &SingleMove<'_>) -> bool
     requires single { IsSingle layouts.now (single_of layouts.now (plain_single single.now)) }
     ensures { Decides result (IsElementary (single_of layouts.now (plain_single single.now))) }
 {
-    is_input_item(layouts, &single.sent) && is_item(kind_of(layouts.output, &single.receiver).get())
+    is_input_item(layouts, &single.sent) && is_whole_item(layouts.output, &single.receiver)
 }
 
 /// Whether a single move is as is asked.

@@ -42,14 +42,6 @@ fn lacking<'a>(output: &Node, item: &Item, out: LinedSingle<'a>) -> Option<Stay<
     Some(Stay::Lacking { out, lack })
 }
 
-/// Whether no part receives there, and none is sent back or receives then.
-fn returns_whole(home: &LinedSingle<'_>, out: &LinedSingle<'_>) -> bool {
-    let Sent::Entry { entry: away, .. } = home.sent else {
-        return false;
-    };
-    away.part.is_none() && home.receiver.part.is_none() && out.receiver.part.is_none()
-}
-
 /// Why this occurrence of an item doesn't come back, where it doesn't.
 fn stay_of<'a>(ways: &Ways<'_, 'a>, item: &Item, element: Element<'_>) -> Option<Stay<'a>> {
     if !is_moved(ways.there, element) {
@@ -62,9 +54,7 @@ fn stay_of<'a>(ways: &Ways<'_, 'a>, item: &Item, element: Element<'_>) -> Option
         return None;
     };
     match receiving(ways.there, away) {
-        Some(out) if returns_whole(&home, &out) && is_sent(out.sent, element) => {
-            lacking(ways.output, item, out)
-        }
+        Some(out) if is_sent(out.sent, element) => lacking(ways.output, item, out),
         out => Some(Stay::Other { home, away, out }),
     }
 }

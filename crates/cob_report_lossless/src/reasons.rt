@@ -40,6 +40,10 @@ pub enum LossReason<'a> {
     Figurative(NamedOccurrence<'a>),
     /// This sender is of the output record.
     OwnRecord(NamedOccurrence<'a>),
+    /// This sender is a part of an item.
+    SendingPart(NamedOccurrence<'a>),
+    /// This receiver is a part of an item.
+    ReceivingPart(NamedOccurrence<'a>),
     /// This sender is a group.
     SendingGroup(NamedOccurrence<'a>),
     /// This receiver is a group.
@@ -162,10 +166,14 @@ fn told_sender<'a>(moves: &MovesBetween<'a>, single: &LinedSingle<'a>) -> Option
             side: Side::In,
             entry,
         } => {
-            if entry.part.is_some() || !is_group(moves.layouts.input, entry.number) {
+            let sender = named_in(moves.layouts.input, entry);
+            if entry.part.is_some() {
+                return Some(LossReason::SendingPart(sender));
+            }
+            if !is_group(moves.layouts.input, entry.number) {
                 return None;
             }
-            Some(LossReason::SendingGroup(named_in(moves.layouts.input, entry)))
+            Some(LossReason::SendingGroup(sender))
         }
     }
 }
@@ -175,10 +183,14 @@ fn told_operand<'a>(moves: &MovesBetween<'a>, single: &LinedSingle<'a>) -> Optio
     if let Some(reason) = told_sender(moves, single) {
         return Some(reason);
     }
-    if single.receiver.part.is_some() || !is_group(moves.layouts.output, single.receiver.number) {
+    let receiver = named_in(moves.layouts.output, single.receiver);
+    if single.receiver.part.is_some() {
+        return Some(LossReason::ReceivingPart(receiver));
+    }
+    if !is_group(moves.layouts.output, single.receiver.number) {
         return None;
     }
-    Some(LossReason::ReceivingGroup(named_in(moves.layouts.output, single.receiver)))
+    Some(LossReason::ReceivingGroup(receiver))
 }
 
 /// Why a single move may read more than its sender's picture says.

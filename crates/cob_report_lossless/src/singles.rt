@@ -38,12 +38,10 @@ pub(crate) fn is_one(element: Element<'_>, other: Element<'_>) -> bool {
     element.number == other.number && element.subscripts == other.subscripts
 }
 
-/// Whether what is sent is this occurrence of an entry of the input record, all of it.
+/// Whether what is sent is this occurrence of an entry of the input record.
 pub(crate) fn is_sent(sent: Sent<'_>, element: Element<'_>) -> bool {
     match sent {
-        Sent::Entry { side, entry } => {
-            matches!(side, Side::In) && entry.part.is_none() && is_one(entry, element)
-        }
+        Sent::Entry { side, entry } => matches!(side, Side::In) && is_one(entry, element),
         Sent::Constant(_) => false,
     }
 }

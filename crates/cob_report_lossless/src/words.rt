@@ -224,6 +224,10 @@ impl fmt::Display for LossReason<'_> {
             LossReason::OwnRecord(sender) => {
                 write!(f, "{sender}, which is sent, is of the output record")
             },
+            LossReason::SendingPart(sender) => write!(f, "{sender}, which is sent, is a part"),
+            LossReason::ReceivingPart(receiver) => {
+                write!(f, "{receiver}, which receives, is a part")
+            }
             LossReason::SendingGroup(sender) => write!(f, "{sender}, which is sent, is a group"),
             LossReason::ReceivingGroup(receiver) => {
                 write!(f, "{receiver}, which receives, is a group")
