@@ -36,7 +36,7 @@ fn part_length(part: Option<ItemPart>, bytes: u32) -> u32
 }
 
 /// What is meant of an entry of this kind, whose first element has so many bytes, measured; None where the element hasn't the part that is meant.
-fn measured(kind: &Kind, part: Option<ItemPart>, bytes: u32) -> Option<Measured<'_>>
+fn measure(kind: &Kind, part: Option<ItemPart>, bytes: u32) -> Option<Measured<'_>>
     ensures some { IfSome result (λ m. HasPart part bytes × (m.kind ≡ kind_of_part part kind.now)
         × (m.bytes ≡ part_length part bytes)) }
     ensures none { IfNone result (HasPart part bytes → ⊥) }
@@ -58,7 +58,7 @@ pub(crate) fn entry_at<'a>(layout: &'a Layout, element: Element<'_>) -> Option<M
         (HasNoEntry layout.now element.entry.number element.entry.part) }
 {
     match layout.greatest_spots().get(element.number) {
-        Some(spot) => measured(layout.kind(element.number), element.part, spot.length),
+        Some(spot) => measure(layout.kind(element.number), element.part, spot.length),
         None => None,
     }
 }

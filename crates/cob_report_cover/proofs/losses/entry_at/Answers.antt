@@ -13,14 +13,14 @@ returns-in-Some-clause-some c =
     let (some, here, there, (within, holds), back) = c.in-Some.ensures.lookup in
     let tree = c.args.layout.now in
     let spot = spot_here tree c.args.element.number c.greatest_spots.result.now c.in-Some.spot.now c.greatest_spots.ensures within here in
-    measured_there tree c.args.element.number c.args.element.part c.in-Some.spot.now c.kind.result.now c.measured.result c.kind.ensures spot c.measured.ensures.some
+    measured_there tree c.args.element.number c.args.element.part c.in-Some.spot.now c.kind.result.now c.measure.result c.kind.ensures spot c.measure.ensures.some
 
 pub returns-in-Some-clause-none : goal.returns-in-Some-clause-none
 returns-in-Some-clause-none c =
     let (some, here, there, (within, holds), back) = c.in-Some.ensures.lookup in
     let tree = c.args.layout.now in
     let spot = spot_here tree c.args.element.number c.greatest_spots.result.now c.in-Some.spot.now c.greatest_spots.ensures within here in
-    measured_lacks tree c.args.element.number c.args.element.part c.in-Some.spot.now c.measured.result spot c.measured.ensures.none
+    measured_lacks tree c.args.element.number c.args.element.part c.in-Some.spot.now c.measure.result spot c.measure.ensures.none
 
 pub returns-in-None-clause-none : goal.returns-in-None-clause-none
 returns-in-None-clause-none c =
