@@ -14,14 +14,15 @@ use cob_copybook_clauses::WordClass;
 use cob_picture::{Category, Picture};
 use cob_source::Token;
 
-/// Whether the last bracket behind a name among these words is one that opens: a bracket elsewhere holds conditions together.
+/// Whether the last bracket behind a name, or behind its subscripts, among these words is one that opens: a bracket elsewhere holds conditions together.
 fn end_in_brackets(words: &[Token]) -> bool {
     let mut inside = false;
     let mut is_behind_name = false;
     for word in words {
         let opens = is_behind_name && is_term(word, WordClass::OpenBracket);
-        inside = opens || (inside && !is_term(word, WordClass::CloseBracket));
-        is_behind_name = is_name_word(word) && !is_test_word(word);
+        let closes = inside && is_term(word, WordClass::CloseBracket);
+        inside = opens || (inside && !closes);
+        is_behind_name = closes || (is_name_word(word) && !is_test_word(word));
     }
     inside
 }

@@ -55,8 +55,43 @@ fn subscripts_len(words: &[Token]) -> usize {
     words.len()
 }
 
+/// Whether a word stands between the start and the length of a part.
+fn is_colon(word: &Token) -> bool {
+    word.kind == TokenKind::Word && word.text.as_slice() == b":".as_slice()
+}
+
+/// The words behind the bracket in front, where it opens a part of an item.
+fn behind_opened_part(words: &[Token]) -> Option<&[Token]> {
+    let inside = behind(words, WordClass::OpenBracket)?;
+    match behind_many(inside, subscripts_len(inside)).first() {
+        Some(word) if is_colon(word) => Some(inside),
+        _ => None,
+    }
+}
+
+/// The words behind the part of an item in front, if there is one, or what lacks in it.
+fn behind_part(words: &[Token]) -> Read<'_> {
+    let Some(inside) = behind_opened_part(words) else {
+        return Ok(words);
+    };
+    let start = subscripts_len(inside);
+    let rest = behind_many(inside, start);
+    if start == 0 {
+        return lacks(rest, "the start of a part");
+    }
+    let length = behind_many(rest, 1);
+    let end = behind_many(length, subscripts_len(length));
+    match behind(end, WordClass::CloseBracket) {
+        Some(more) => Ok(more),
+        None => lacks(end, "a bracket that closes"),
+    }
+}
+
 /// The words behind the subscripts of a name, if there are some, or what lacks in them.
 fn behind_subscripts(words: &[Token]) -> Read<'_> {
+    if behind_opened_part(words).is_some() {
+        return Ok(words);
+    }
     let Some(inside) = behind(words, WordClass::OpenBracket) else {
         return Ok(words);
     };
@@ -68,15 +103,13 @@ fn behind_subscripts(words: &[Token]) -> Read<'_> {
     }
 }
 
-/// The words behind a name with its qualifiers and subscripts, or what lacks in it.
+/// The words behind a name with its qualifiers, its subscripts and the part of it that is meant, or what lacks in it.
 pub(crate) fn behind_reference<'a>(words: &'a [Token], expected: &'static str) -> Read<'a> {
     let Some(more) = behind_name(words) else {
         return lacks(words, expected);
     };
-    match behind_qualifiers(more) {
-        Ok(rest) => behind_subscripts(rest),
-        lack => lack,
-    }
+    let qualified = behind_qualifiers(more)?;
+    behind_part(behind_subscripts(qualified)?)
 }
 
 /// Whether a word is a literal, of characters or of digits.
