@@ -20,8 +20,8 @@ use cob_copybook_tree::{Item, Kind, is_number, is_number_item};
 use cob_move_condition::{Class, WithoutValue, compare, is_in_class, may_compare};
 use cob_move_receive::{SenderKind, Sent};
 use cob_test_layouts::{book_at, constant_of};
-use cob_test_rows::{Row, RowFault};
-use std::alloc::{AllocError, Global};
+use cob_test_rows::{Row, RowFault, TextBuffer};
+use std::alloc::Global;
 use std::cmp::Ordering;
 
 /// Whether bytes can hold what an item describes.
@@ -60,15 +60,16 @@ fn push_compared(
     first_kind: &SenderKind<'_>,
     second: &Sent<'_>,
     second_kind: &SenderKind<'_>,
-    out: &mut String,
-) -> Result<(), AllocError>
+    out: &mut TextBuffer,
+)
     requires first { HasAllBytes (sent first.now) }
     requires second { HasAllBytes (sent second.now) }
     requires first_kind { kind_of_sent (sent first.now) ≡ sender_kind first_kind.now }
     requires second_kind { kind_of_sent (sent second.now) ≡ sender_kind second_kind.now }
 {
     if !may_compare(first_kind, second_kind) {
-        return out.push_str("M13");
+        out.push_str("M13");
+        return;
     }
     match compare(first, second) {
         Ok(order) => out.push_str(order_name(order)),
@@ -84,7 +85,7 @@ fn push_beside_constant(
     bytes: &[u8],
     reading: Reading,
     value: &Value,
-    out: &mut String,
+    out: &mut TextBuffer,
 ) -> Result<(), RowFault> {
     if bytes.len() != size || !has_bytes(kind, bytes.len()) {
         return Err(RowFault::BadRow);
@@ -94,13 +95,14 @@ fn push_beside_constant(
         bytes,
         reading,
     };
-    Ok(push_compared(
+    push_compared(
         &given,
         &SenderKind::Entry(kind),
         &Sent::Constant(value),
         &SenderKind::Constant(value),
         out,
-    )?)
+    );
+    Ok(())
 }
 
 /// Writes what the entry of a book, which a row's bytes hold and which is read so, and a constant compare to.
@@ -110,7 +112,7 @@ fn compare_with(
     reading: Reading,
     value: &Value,
     row: &Row,
-    out: &mut String,
+    out: &mut TextBuffer,
 ) -> Result<(), RowFault> {
     let bytes = row.bytes(alloc, 2)?;
     let size = usize::from(book.greatest());
@@ -129,7 +131,7 @@ fn compare_constant(
     alloc: Global,
     reading: Reading,
     row: &Row,
-    out: &mut String,
+    out: &mut TextBuffer,
 ) -> Result<(), RowFault> {
     let value = constant_of(row.field(3)?)?;
     let book = book_at(alloc, Role::In, row, 1)?;
@@ -142,7 +144,7 @@ fn push_entries(
     bytes: &[u8],
     other: &Book,
     others: &[u8],
-    out: &mut String,
+    out: &mut TextBuffer,
 ) -> Result<(), RowFault> {
     let kind = &book.root().kind;
     let other_kind = &other.root().kind;
@@ -162,13 +164,14 @@ fn push_entries(
         bytes: others,
         reading: Reading::Pictured,
     };
-    Ok(push_compared(
+    push_compared(
         &given,
         &SenderKind::Entry(kind),
         &beside,
         &SenderKind::Entry(other_kind),
         out,
-    )?)
+    );
+    Ok(())
 }
 
 /// The same, where a row has the bytes of the second.
@@ -178,7 +181,7 @@ fn compare_bytes(
     bytes: &[u8],
     other: &Book,
     row: &Row,
-    out: &mut String,
+    out: &mut TextBuffer,
 ) -> Result<(), RowFault> {
     let others = row.bytes(alloc, 4)?;
     push_entries(book, bytes, other, others.as_slice(), out)
@@ -190,7 +193,7 @@ fn compare_books(
     book: &Book,
     other: &Book,
     row: &Row,
-    out: &mut String,
+    out: &mut TextBuffer,
 ) -> Result<(), RowFault> {
     let bytes = row.bytes(alloc, 2)?;
     compare_bytes(alloc, book, bytes.as_slice(), other, row, out)
@@ -201,14 +204,14 @@ fn compare_with_other(
     alloc: Global,
     book: &Book,
     row: &Row,
-    out: &mut String,
+    out: &mut TextBuffer,
 ) -> Result<(), RowFault> {
     let other = book_at(alloc, Role::In, row, 3)?;
     compare_books(alloc, book, &other, row, out)
 }
 
 /// Writes what two entries compare to.
-fn compare_entries(alloc: Global, row: &Row, out: &mut String) -> Result<(), RowFault> {
+fn compare_entries(alloc: Global, row: &Row, out: &mut TextBuffer) -> Result<(), RowFault> {
     let book = book_at(alloc, Role::In, row, 1)?;
     compare_with_other(alloc, &book, row, out)
 }
@@ -230,7 +233,7 @@ fn push_class(
     size: usize,
     bytes: &[u8],
     class: Class,
-    out: &mut String,
+    out: &mut TextBuffer,
 ) -> Result<(), RowFault> {
     if bytes.len() != size || !has_bytes(kind, bytes.len()) {
         return Err(RowFault::BadRow);
@@ -245,7 +248,8 @@ fn push_class(
     } else {
         "no"
     };
-    Ok(out.push_str(word)?)
+    out.push_str(word);
+    Ok(())
 }
 
 /// Writes whether the entry of a book, which a row's bytes hold, is of a class.
@@ -254,7 +258,7 @@ fn tell_class_of(
     book: &Book,
     class: Class,
     row: &Row,
-    out: &mut String,
+    out: &mut TextBuffer,
 ) -> Result<(), RowFault> {
     let bytes = row.bytes(alloc, 3)?;
     let size = usize::from(book.greatest());
@@ -262,14 +266,14 @@ fn tell_class_of(
 }
 
 /// Writes whether an entry is of a class.
-fn tell_class(alloc: Global, row: &Row, out: &mut String) -> Result<(), RowFault> {
+fn tell_class(alloc: Global, row: &Row, out: &mut TextBuffer) -> Result<(), RowFault> {
     let class = class_named(row.field(1)?)?;
     let book = book_at(alloc, Role::In, row, 2)?;
     tell_class_of(alloc, &book, class, row, out)
 }
 
 /// Writes the answer to a row's question about operands.
-pub(crate) fn answer(alloc: Global, row: &Row, out: &mut String) -> Result<(), RowFault> {
+pub(crate) fn answer(alloc: Global, row: &Row, out: &mut TextBuffer) -> Result<(), RowFault> {
     match row.field(0)? {
         "constant" => compare_constant(alloc, Reading::Pictured, row, out),
         "whole" => compare_constant(alloc, Reading::Whole, row, out),

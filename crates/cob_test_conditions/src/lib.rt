@@ -9,14 +9,14 @@ mod meant;
 mod operands;
 mod written;
 
-use cob_test_rows::{Family, Row, RowFault};
+use cob_test_rows::{Family, Row, RowFault, TextBuffer};
 use std::alloc::Global;
 
 /// The tables on conditions.
 pub struct ConditionRows;
 
 impl Family for ConditionRows {
-    fn answer(alloc: Global, table: &str, row: &Row, out: &mut String) -> Result<(), RowFault> {
+    fn answer(alloc: Global, table: &str, row: &Row, out: &mut TextBuffer) -> Result<(), RowFault> {
         match table {
             "compared" => compared::answer(alloc, row, out),
             "meant" => meant::answer(alloc, row, out),

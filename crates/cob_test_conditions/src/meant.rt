@@ -17,41 +17,38 @@ use cob_move_statements::MoveRule;
 use cob_move_tests::{Entries, NamedEntry, condition_of};
 use cob_source::{Token, paragraph_tokens};
 use cob_test_layouts::layout_at;
-use cob_test_rows::{Row, RowFault};
-use std::alloc::{AllocError, Global};
+use cob_test_rows::{Row, RowFault, TextBuffer};
+use std::alloc::Global;
 use std::cmp::Ordering;
 
 /// Writes the subscripts of an entry in brackets, where it has any.
-fn push_subscripts(subscripts: &[u32], out: &mut String) -> Result<(), AllocError> {
+fn push_subscripts(subscripts: &[u32], out: &mut TextBuffer) {
     if subscripts.is_empty() {
-        return Ok(());
+        return;
     }
-    out.push_str(" (")?;
+    out.push_str(" (");
     for subscript in subscripts {
-        write!(out, " {subscript}")?;
+        write!(out, " {subscript}");
     }
-    out.push_str(" )")
+    out.push_str(" )");
 }
 
 /// Writes the entry with a number among those that are asked for.
-fn push_entry(asked: &[NamedEntry], number: usize, out: &mut String) -> Result<(), AllocError> {
+fn push_entry(asked: &[NamedEntry], number: usize, out: &mut TextBuffer) {
     let Some(named) = asked.get(number) else {
-        return out.push('?');
+        out.push('?');
+        return;
     };
     let side = match named.side {
         Side::In => "in",
         Side::Out => "out",
     };
-    write!(out, "{side} {}", named.entry.node)?;
-    push_subscripts(named.entry.subscripts.as_slice(), out)
+    write!(out, "{side} {}", named.entry.node);
+    push_subscripts(named.entry.subscripts.as_slice(), out);
 }
 
 /// Writes what is compared.
-fn push_comparand(
-    asked: &[NamedEntry],
-    operand: &Comparand,
-    out: &mut String,
-) -> Result<(), AllocError> {
+fn push_comparand(asked: &[NamedEntry], operand: &Comparand, out: &mut TextBuffer) {
     match operand {
         Comparand::Entry(number) => push_entry(asked, *number, out),
         Comparand::Constant(value) => push_value(value, out),
@@ -78,39 +75,35 @@ fn class_name(class: Class) -> &'static str {
 }
 
 /// Writes a condition.
-fn push_condition(
-    asked: &[NamedEntry],
-    condition: &Condition,
-    out: &mut String,
-) -> Result<(), AllocError> {
+fn push_condition(asked: &[NamedEntry], condition: &Condition, out: &mut TextBuffer) {
     match condition {
         Condition::Always => out.push_str("always"),
         Condition::Compares(first, order, second) => {
-            push_comparand(asked, first, out)?;
-            out.push_str(order_sign(*order))?;
+            push_comparand(asked, first, out);
+            out.push_str(order_sign(*order));
             push_comparand(asked, second, out)
         }
         Condition::HasClass(number, class) => {
-            push_entry(asked, *number, out)?;
+            push_entry(asked, *number, out);
             out.push_str(class_name(*class))
         }
         Condition::Not(inner) => {
-            out.push_str("not (")?;
-            push_condition(asked, inner, out)?;
+            out.push_str("not (");
+            push_condition(asked, inner, out);
             out.push(')')
         }
         Condition::Both(first, second) => {
-            out.push('{')?;
-            push_condition(asked, first, out)?;
-            out.push_str(" and ")?;
-            push_condition(asked, second, out)?;
+            out.push('{');
+            push_condition(asked, first, out);
+            out.push_str(" and ");
+            push_condition(asked, second, out);
             out.push('}')
         }
         Condition::Either(first, second) => {
-            out.push('{')?;
-            push_condition(asked, first, out)?;
-            out.push_str(" or ")?;
-            push_condition(asked, second, out)?;
+            out.push('{');
+            push_condition(asked, first, out);
+            out.push_str(" or ");
+            push_condition(asked, second, out);
             out.push('}')
         }
     }
@@ -121,16 +114,17 @@ fn push_meant(
     alloc: Global,
     entries: &Entries<'_, '_>,
     words: &[Token],
-    out: &mut String,
+    out: &mut TextBuffer,
 ) -> Result<(), RowFault>
     requires named { AllMayBeNamed entries.now }
 {
     let mut asked = Vec::new(alloc);
     match condition_of(alloc, entries, words, &mut asked) {
-        Ok(condition) => Ok(push_condition(asked.as_slice(), &condition, out)?),
-        Err(MoveRule::Memory) => Err(RowFault::Memory),
-        Err(rule) => Ok(write!(out, "{rule}")?),
+        Ok(condition) => push_condition(asked.as_slice(), &condition, out),
+        Err(MoveRule::Memory) => return Err(RowFault::Memory),
+        Err(rule) => write!(out, "{rule}"),
     }
+    Ok(())
 }
 
 /// The same between records of these layouts.
@@ -140,7 +134,7 @@ fn push_between(
     output: &Layout,
     names: ConditionNames<'_>,
     words: &[Token],
-    out: &mut String,
+    out: &mut TextBuffer,
 ) -> Result<(), RowFault> {
     let nameable = Names::with_conditions(alloc, input, output, names)?;
     let entries = Entries {
@@ -158,7 +152,7 @@ fn push_text_of(
     output: &Layout,
     names: ConditionNames<'_>,
     text: &[u8],
-    out: &mut String,
+    out: &mut TextBuffer,
 ) -> Result<(), RowFault> {
     match paragraph_tokens(alloc, text) {
         Ok(words) => push_between(alloc, input, output, names, words.as_slice(), out),
@@ -181,7 +175,7 @@ fn push_words_of(
     input: &Layout,
     output: &Layout,
     row: &Row,
-    out: &mut String,
+    out: &mut TextBuffer,
 ) -> Result<(), RowFault> {
     let in_names = names_at(alloc, row, 0)?;
     let out_names = names_at(alloc, row, 1)?;
@@ -194,13 +188,18 @@ fn push_words_of(
 }
 
 /// The same between this input record and the output record of the row.
-fn push_from(alloc: Global, input: &Layout, row: &Row, out: &mut String) -> Result<(), RowFault> {
+fn push_from(
+    alloc: Global,
+    input: &Layout,
+    row: &Row,
+    out: &mut TextBuffer,
+) -> Result<(), RowFault> {
     let output = layout_at(alloc, Role::Out, row, 1)?;
     push_words_of(alloc, input, &output, row, out)
 }
 
 /// Writes what the condition of a row means, or the rule that it breaks.
-pub(crate) fn answer(alloc: Global, row: &Row, out: &mut String) -> Result<(), RowFault> {
+pub(crate) fn answer(alloc: Global, row: &Row, out: &mut TextBuffer) -> Result<(), RowFault> {
     let input = layout_at(alloc, Role::In, row, 0)?;
     push_from(alloc, &input, row, out)
 }

@@ -5,31 +5,26 @@ use cob_copybook_clauses::ValueClause;
 use cob_copybook_entry::{Figurative, Value};
 use cob_move_statements::{Reference, StatementSender};
 use cob_source::Token;
-use cob_test_rows::push_text;
-use std::alloc::AllocError;
+use cob_test_rows::{TextBuffer, push_text};
 
 /// Writes words, each behind a space.
-fn push_words(words: &[Token], out: &mut String) -> Result<(), AllocError> {
+fn push_words(words: &[Token], out: &mut TextBuffer) {
     for word in words {
-        out.push(' ')?;
-        push_text(out, word.text.as_slice())?;
+        out.push(' ');
+        push_text(out, word.text.as_slice());
     }
-    Ok(())
 }
 
 /// Writes a reference: its name, its qualifiers, and its subscripts in brackets.
-pub(crate) fn push_reference(
-    reference: &Reference<'_>,
-    out: &mut String,
-) -> Result<(), AllocError> {
-    push_text(out, reference.name)?;
-    push_words(reference.qualifiers, out)?;
+pub(crate) fn push_reference(reference: &Reference<'_>, out: &mut TextBuffer) {
+    push_text(out, reference.name);
+    push_words(reference.qualifiers, out);
     if reference.subscripts.is_empty() {
-        return Ok(());
+        return;
     }
-    out.push_str(" (")?;
-    push_words(reference.subscripts, out)?;
-    out.push_str(" )")
+    out.push_str(" (");
+    push_words(reference.subscripts, out);
+    out.push_str(" )");
 }
 
 /// The word of a figurative constant.
@@ -44,30 +39,27 @@ fn figurative_name(figurative: Figurative) -> &'static str {
 }
 
 /// Writes the characters of a literal between quotes.
-fn push_quoted(text: &[u8], out: &mut String) -> Result<(), AllocError> {
-    out.push('"')?;
-    push_text(out, text)?;
-    out.push('"')
+fn push_quoted(text: &[u8], out: &mut TextBuffer) {
+    out.push('"');
+    push_text(out, text);
+    out.push('"');
 }
 
 /// Writes a constant.
-fn push_constant(constant: &ValueClause<'_>, out: &mut String) -> Result<(), AllocError> {
+fn push_constant(constant: &ValueClause<'_>, out: &mut TextBuffer) {
     match constant {
         ValueClause::Word(text) => push_text(out, text),
         ValueClause::Literal(text) => push_quoted(text, out),
         ValueClause::Figurative(figurative) => out.push_str(figurative_name(*figurative)),
         ValueClause::All(text) => {
-            out.push_str("ALL ")?;
+            out.push_str("ALL ");
             push_quoted(text, out)
         }
     }
 }
 
 /// Writes what is compared.
-pub(crate) fn push_operand(
-    operand: &StatementSender<'_>,
-    out: &mut String,
-) -> Result<(), AllocError> {
+pub(crate) fn push_operand(operand: &StatementSender<'_>, out: &mut TextBuffer) {
     match operand {
         StatementSender::Reference(reference) => push_reference(reference, out),
         StatementSender::Constant(constant) => push_constant(constant, out),
@@ -75,7 +67,7 @@ pub(crate) fn push_operand(
 }
 
 /// Writes a constant that was read.
-pub(crate) fn push_value(value: &Value, out: &mut String) -> Result<(), AllocError> {
+pub(crate) fn push_value(value: &Value, out: &mut TextBuffer) {
     match value {
         Value::Number { number, .. } => {
             let mut text: ArrayVec<u8, 64> = ArrayVec::new();
@@ -85,7 +77,7 @@ pub(crate) fn push_value(value: &Value, out: &mut String) -> Result<(), AllocErr
         Value::Literal(text) => push_quoted(text.as_bytes(), out),
         Value::Figurative(figurative) => out.push_str(figurative_name(*figurative)),
         Value::All(text) => {
-            out.push_str("ALL ")?;
+            out.push_str("ALL ");
             push_quoted(text.as_bytes(), out)
         }
     }

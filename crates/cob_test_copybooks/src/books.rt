@@ -4,9 +4,8 @@ use crate::nodes::{push_each, push_names};
 use crate::refusal::Refusal;
 use crate::texts::many_of;
 use cob_copybook::{Book, Role};
-use cob_test_rows::{Row, RowFault};
-use std::alloc::{AllocError, Global};
-use std::fmt::Write;
+use cob_test_rows::{Row, RowFault, TextBuffer};
+use std::alloc::Global;
 
 /// What is written of a copybook.
 #[derive(Clone, Copy)]
@@ -50,19 +49,20 @@ fn book_of(alloc: Global, role: Role, text: &[u8]) -> Result<Book, Refusal> {
 }
 
 /// Writes the answer to a row's question about a copybook.
-pub(crate) fn answer(alloc: Global, row: &Row, out: &mut String) -> Result<(), Refusal> {
+pub(crate) fn answer(alloc: Global, row: &Row, out: &mut TextBuffer) -> Result<(), Refusal> {
     let question = row.field(0)?;
     let (role, shown) = asked_of(question)?;
     let text = text_of(alloc, question, row)?;
     let book = book_of(alloc, role, text.as_slice())?;
-    Ok(push_book(out, shown, &book)?)
+    push_book(out, shown, &book);
+    Ok(())
 }
 
 /// Writes what is asked for of a copybook.
-fn push_book(out: &mut String, shown: Shown, book: &Book) -> Result<(), AllocError> {
+fn push_book(out: &mut TextBuffer, shown: Shown, book: &Book) {
     match shown {
         Shown::Names => {
-            write!(out, "{} ", book.greatest())?;
+            write!(out, "{} ", book.greatest());
             push_names(out, book.root())
         }
         Shown::Each => push_each(out, book.root()),

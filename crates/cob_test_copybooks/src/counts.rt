@@ -3,20 +3,18 @@
 use crate::refusal::Refusal;
 use crate::trees::tree_of;
 use cob_copybook_names::counts;
-use cob_test_rows::{Row, RowFault};
-use std::alloc::{AllocError, Global};
-use std::fmt::Write;
+use cob_test_rows::{Row, RowFault, TextBuffer};
+use std::alloc::Global;
 
 /// Writes the numbers of counts, and a hyphen for one that there isn't.
-fn push_counts(out: &mut String, counts: &[Option<usize>]) -> Result<(), AllocError> {
+fn push_counts(out: &mut TextBuffer, counts: &[Option<usize>]) {
     for count in counts {
-        out.push_str(if out.is_empty() { "" } else { " " })?;
+        out.push_str(if out.is_empty() { "" } else { " " });
         match count {
-            Some(number) => write!(out, "{number}")?,
-            None => out.push('-')?,
+            Some(number) => write!(out, "{number}"),
+            None => out.push('-'),
         }
     }
-    Ok(())
 }
 
 /// The number of each entry's count.
@@ -29,9 +27,10 @@ fn counts_of(alloc: Global, row: &Row) -> Result<Vec<Option<usize>>, Refusal> {
 }
 
 /// Writes the answer to a row's question about entries: the number of each one's count, and a hyphen for one that doesn't vary.
-pub(crate) fn answer(alloc: Global, row: &Row, out: &mut String) -> Result<(), Refusal> {
+pub(crate) fn answer(alloc: Global, row: &Row, out: &mut TextBuffer) -> Result<(), Refusal> {
     if row.field(0)? != "counts" {
         return Err(Refusal::Row(RowFault::BadRow));
     }
-    Ok(push_counts(out, counts_of(alloc, row)?.as_slice())?)
+    push_counts(out, counts_of(alloc, row)?.as_slice());
+    Ok(())
 }

@@ -8,7 +8,7 @@ use crate::refusal::Refusal;
 use crate::trees::record_of;
 use cob_copybook_rules::judge_lengths;
 use cob_copybook_tree::{Kind, Node};
-use cob_test_rows::{Row, RowFault};
+use cob_test_rows::{Row, RowFault, TextBuffer};
 use std::alloc::Global;
 use std::slice;
 
@@ -21,12 +21,13 @@ fn judge(root: &Node) -> Result<(), Refusal> {
 }
 
 /// Writes the answer to a row's question about entries.
-pub(crate) fn answer(alloc: Global, row: &Row, out: &mut String) -> Result<(), Refusal> {
+pub(crate) fn answer(alloc: Global, row: &Row, out: &mut TextBuffer) -> Result<(), Refusal> {
     if row.field(0)? != "fit" {
         return Err(Refusal::Row(RowFault::BadRow));
     }
     judge(&record_of(alloc, row)?)?;
-    Ok(out.push_str("yes")?)
+    out.push_str("yes");
+    Ok(())
 }
 
 /// Whether the entries occur at least once, and the items have none beneath them.

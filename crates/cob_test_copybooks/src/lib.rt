@@ -20,9 +20,8 @@ mod trees;
 mod words;
 
 use crate::refusal::Refusal;
-use cob_test_rows::{Family, Row, RowFault};
+use cob_test_rows::{Family, Row, RowFault, TextBuffer};
 use std::alloc::Global;
-use std::fmt::Write;
 
 /// The tables on copybooks.
 pub struct CopybookRows;
@@ -31,7 +30,7 @@ pub struct CopybookRows;
 ///
 /// # Errors
 /// That there is no answer, or a rule that the row's text breaks.
-fn answer(alloc: Global, table: &str, row: &Row, out: &mut String) -> Result<(), Refusal> {
+fn answer(alloc: Global, table: &str, row: &Row, out: &mut TextBuffer) -> Result<(), Refusal> {
     match table {
         "lines"
         | "literals"
@@ -55,11 +54,14 @@ fn answer(alloc: Global, table: &str, row: &Row, out: &mut String) -> Result<(),
 }
 
 impl Family for CopybookRows {
-    fn answer(alloc: Global, table: &str, row: &Row, out: &mut String) -> Result<(), RowFault> {
+    fn answer(alloc: Global, table: &str, row: &Row, out: &mut TextBuffer) -> Result<(), RowFault> {
         match answer(alloc, table, row, out) {
             Ok(()) => Ok(()),
             Err(Refusal::Row(fault)) => Err(fault),
-            Err(Refusal::Text(fault)) => Ok(write!(out, "{fault}")?),
+            Err(Refusal::Text(fault)) => {
+                write!(out, "{fault}");
+                Ok(())
+            }
         }
     }
 }

@@ -3,7 +3,7 @@
 use cob_copybook_entries::entries;
 use cob_copybook_entry::{BookFault, Entry};
 use cob_source::{Token, tokens};
-use cob_test_rows::{Row, RowFault, lines_of};
+use cob_test_rows::{Row, RowFault, TextBuffer, lines_of};
 use std::alloc::{AllocError, Global};
 
 /// The words of a text.
@@ -43,14 +43,13 @@ fn push_line(text: &mut String, line: &str) -> Result<(), AllocError> {
 }
 
 /// Writes a word of ASCII.
-pub(crate) fn push_word(out: &mut String, word: &[u8]) -> Result<(), AllocError> {
+pub(crate) fn push_word(out: &mut TextBuffer, word: &[u8]) {
     for byte in word {
-        out.push(char::from(*byte))?;
+        out.push(char::from(*byte));
     }
-    Ok(())
 }
 
 /// Writes yes or no.
-pub(crate) fn push_whether(out: &mut String, holds: bool) -> Result<(), AllocError> {
-    out.push_str(if holds { "yes" } else { "no" })
+pub(crate) fn push_whether(out: &mut TextBuffer, holds: bool) {
+    out.push_str(if holds { "yes" } else { "no" });
 }

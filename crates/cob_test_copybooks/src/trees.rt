@@ -12,25 +12,25 @@ use cob_copybook_entry::Entry;
 use cob_copybook_tree::{
     Branch, Kind, Node, as_many_entries, build_tree, element_length, resolve, whole_length,
 };
-use cob_test_rows::{Row, RowFault};
-use std::alloc::{AllocError, Global};
-use std::fmt::Write;
+use cob_test_rows::{Row, RowFault, TextBuffer};
+use std::alloc::Global;
 
 /// Writes the answer to a row's question about entries.
-pub(crate) fn answer(alloc: Global, row: &Row, out: &mut String) -> Result<(), Refusal> {
+pub(crate) fn answer(alloc: Global, row: &Row, out: &mut TextBuffer) -> Result<(), Refusal> {
     let root = record_of(alloc, row)?;
     Ok(push_record(out, row.field(0)?, &root)?)
 }
 
 /// Writes what a question asks of a record.
-fn push_record(out: &mut String, question: &str, root: &Node) -> Result<(), RowFault> {
+fn push_record(out: &mut TextBuffer, question: &str, root: &Node) -> Result<(), RowFault> {
     match question {
-        "tree" => Ok(push_tree(out, root)?),
-        "each" => Ok(push_each(out, root)?),
-        "lengths" => Ok(push_lengths(out, root)?),
-        "size" => push_size(out, root),
-        _ => Err(RowFault::BadRow),
+        "tree" => push_tree(out, root),
+        "each" => push_each(out, root),
+        "lengths" => push_lengths(out, root),
+        "size" => return push_size(out, root),
+        _ => return Err(RowFault::BadRow),
     }
+    Ok(())
 }
 
 /// The numbers of a field, parted by spaces; a hyphen stands where there is none.
@@ -97,24 +97,24 @@ pub(crate) fn record_of(alloc: Global, row: &Row) -> Result<Node, Refusal> {
 }
 
 /// Writes the bytes of a record that is an item.
-fn push_size(out: &mut String, root: &Node) -> Result<(), RowFault> {
+fn push_size(out: &mut TextBuffer, root: &Node) -> Result<(), RowFault> {
     match &root.kind {
-        Kind::Item(item) => Ok(write!(out, "{}", item.size())?),
-        Kind::Group => Err(RowFault::BadRow),
+        Kind::Item(item) => write!(out, "{}", item.size()),
+        Kind::Group => return Err(RowFault::BadRow),
     }
+    Ok(())
 }
 
 /// Writes the lengths of one element of an entry and of all.
-fn push_both_lengths(out: &mut String, node: &Node) -> Result<(), AllocError> {
-    write!(out, "{}/{}", element_length(node), whole_length(node))
+fn push_both_lengths(out: &mut TextBuffer, node: &Node) {
+    write!(out, "{}/{}", element_length(node), whole_length(node));
 }
 
 /// Writes the lengths of one element of the record and of all, and those of each entry right beneath it.
-fn push_lengths(out: &mut String, root: &Node) -> Result<(), AllocError> {
-    push_both_lengths(out, root)?;
+fn push_lengths(out: &mut TextBuffer, root: &Node) {
+    push_both_lengths(out, root);
     for child in root.children.iter() {
-        out.push(' ')?;
-        push_both_lengths(out, child)?;
+        out.push(' ');
+        push_both_lengths(out, child);
     }
-    Ok(())
 }

@@ -6,9 +6,8 @@
 use cob_source::{
     SourceFault, Token, TokenKind, free_tokens, paragraph_tokens, tokens, without_tabs,
 };
-use cob_test_rows::{Row, RowFault, push_text};
+use cob_test_rows::{Row, RowFault, TextBuffer, push_text};
 use std::alloc::{AllocError, Global};
-use std::fmt::Write;
 
 /// The name of a kind of token.
 fn kind_name(kind: TokenKind) -> &'static str {
@@ -20,23 +19,23 @@ fn kind_name(kind: TokenKind) -> &'static str {
 }
 
 /// Writes a token: what it is, its line and column, and its characters.
-fn push_token(out: &mut String, token: &Token) -> Result<(), AllocError> {
+fn push_token(out: &mut TextBuffer, token: &Token) {
     let kind = kind_name(token.kind);
-    write!(out, "{kind} {}:{} \"", token.line, token.column)?;
-    push_text(out, token.text.as_slice())?;
-    out.push('"')
+    write!(out, "{kind} {}:{} \"", token.line, token.column);
+    push_text(out, token.text.as_slice());
+    out.push('"');
 }
 
 /// Writes tokens.
-fn push_tokens(out: &mut String, list: &[Token]) -> Result<(), AllocError> {
+fn push_tokens(out: &mut TextBuffer, list: &[Token]) {
     if list.is_empty() {
-        return out.push_str("nothing");
+        out.push_str("nothing");
+        return;
     }
     for token in list {
-        out.push_str(if out.is_empty() { "" } else { " | " })?;
-        push_token(out, token)?;
+        out.push_str(if out.is_empty() { "" } else { " | " });
+        push_token(out, token);
     }
-    Ok(())
 }
 
 /// A text of this many bytes, with a word in column 8 of each line of 80 bytes.
@@ -81,7 +80,7 @@ fn read(alloc: Global, table: &str, text: &[u8]) -> Result<Vec<Token>, SourceFau
 }
 
 /// Writes tokens, or how many there are.
-fn push_list(out: &mut String, is_counted: bool, list: &[Token]) -> Result<(), AllocError> {
+fn push_list(out: &mut TextBuffer, is_counted: bool, list: &[Token]) {
     if is_counted {
         write!(out, "{} tokens", list.len())
     } else {
@@ -90,7 +89,7 @@ fn push_list(out: &mut String, is_counted: bool, list: &[Token]) -> Result<(), A
 }
 
 /// Writes what the tokens of a text of this table are, or the rule that the text breaks.
-fn push_read(alloc: Global, table: &str, text: &[u8], out: &mut String) -> Result<(), AllocError> {
+fn push_read(alloc: Global, table: &str, text: &[u8], out: &mut TextBuffer) {
     match read(alloc, table, text) {
         Ok(list) => push_list(out, table == "long_texts", list.as_slice()),
         Err(fault) => write!(out, "{fault}"),
@@ -103,8 +102,9 @@ pub(crate) fn answer(
     alloc: Global,
     table: &str,
     row: &Row,
-    out: &mut String,
+    out: &mut TextBuffer,
 ) -> Result<(), RowFault> {
     let text = text_of(alloc, table, row)?;
-    Ok(push_read(alloc, table, text.as_slice(), out)?)
+    push_read(alloc, table, text.as_slice(), out);
+    Ok(())
 }

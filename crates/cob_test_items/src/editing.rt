@@ -6,8 +6,8 @@ use cob_cp037::{decode_byte, encode_into};
 use cob_decimal::Number;
 use cob_edit::{deedit, edit, edit_text};
 use cob_picture::{Category, Picture};
-use cob_test_rows::{Row, RowFault, push_digits, push_text};
-use std::alloc::{AllocError, Global};
+use cob_test_rows::{Row, RowFault, TextBuffer, push_digits, push_text};
+use std::alloc::Global;
 
 /// The bytes of the text between the quotes of the second field.
 fn bytes_of_text(alloc: Global, row: &Row) -> Result<Vec<u8>, RowFault> {
@@ -21,15 +21,15 @@ fn bytes_of_text(alloc: Global, row: &Row) -> Result<Vec<u8>, RowFault> {
 }
 
 /// Writes the characters of bytes between quotes, and a byte without one as its digits.
-fn push_characters(out: &mut String, bytes: &[u8]) -> Result<(), AllocError> {
-    out.push('"')?;
+fn push_characters(out: &mut TextBuffer, bytes: &[u8]) {
+    out.push('"');
     for byte in bytes {
         match decode_byte(*byte) {
-            Some(character) => push_text(out, &[character])?,
-            None => push_digits(out, &[*byte])?,
+            Some(character) => push_text(out, &[character]),
+            None => push_digits(out, &[*byte]),
         }
     }
-    out.push('"')
+    out.push('"');
 }
 
 /// Whether the two are one number with one scale.
@@ -68,11 +68,11 @@ fn kept(picture: &Picture, number: &Number) -> Number {
 }
 
 /// Writes whether the number that is read back is the one that was kept.
-fn push_back(out: &mut String, read: &Option<Number>, kept: &Number) -> Result<(), AllocError> {
+fn push_back(out: &mut TextBuffer, read: &Option<Number>, kept: &Number) {
     match read {
         Some(read) if is_same(read, kept) => out.push_str(" and back"),
         Some(read) => {
-            out.push_str(" and back as ")?;
+            out.push_str(" and back as ");
             push_number(out, read)
         }
         None => out.push_str(" and not back"),
@@ -84,14 +84,15 @@ pub(crate) fn push_edited(
     alloc: Global,
     row: &Row,
     blank: bool,
-    out: &mut String,
+    out: &mut TextBuffer,
 ) -> Result<(), RowFault> {
     let picture = picture_of(alloc, row)?;
     let number = number_of_text(alloc, row, 1)?;
     let bytes = edited(alloc, &picture, blank, &number)?;
-    push_characters(out, bytes.as_slice())?;
+    push_characters(out, bytes.as_slice());
     let read = number_shown(&picture, blank, bytes.as_slice())?;
-    Ok(push_back(out, &read, &kept(&picture, &number))?)
+    push_back(out, &read, &kept(&picture, &number));
+    Ok(())
 }
 
 /// Writes the number whose text stands in a row.
@@ -99,14 +100,15 @@ pub(crate) fn push_read(
     alloc: Global,
     row: &Row,
     blank: bool,
-    out: &mut String,
+    out: &mut TextBuffer,
 ) -> Result<(), RowFault> {
     let picture = picture_of(alloc, row)?;
     let bytes = bytes_of_text(alloc, row)?;
     match number_shown(&picture, blank, bytes.as_slice())? {
-        Some(number) => Ok(push_number(out, &number)?),
-        None => Ok(out.push_str("no number")?),
+        Some(number) => push_number(out, &number),
+        None => out.push_str("no number"),
     }
+    Ok(())
 }
 
 /// The text that a picture gives characters.
@@ -120,9 +122,10 @@ fn spelled(alloc: Global, picture: &Picture, sent: &[u8]) -> Result<Vec<u8>, Row
 }
 
 /// Writes the text that a picture gives characters.
-pub(crate) fn push_spelled(alloc: Global, row: &Row, out: &mut String) -> Result<(), RowFault> {
+pub(crate) fn push_spelled(alloc: Global, row: &Row, out: &mut TextBuffer) -> Result<(), RowFault> {
     let picture = picture_of(alloc, row)?;
     let sent = bytes_of_text(alloc, row)?;
     let bytes = spelled(alloc, &picture, sent.as_slice())?;
-    Ok(push_characters(out, bytes.as_slice())?)
+    push_characters(out, bytes.as_slice());
+    Ok(())
 }

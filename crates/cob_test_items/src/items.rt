@@ -5,7 +5,7 @@ use crate::pictures::picture_of;
 use cob_copybook_entry::{Sign, Usage};
 use cob_copybook_tree::{Item, is_number_item, read_number, store_number};
 use cob_decimal::Number;
-use cob_test_rows::{Row, RowFault, push_digits};
+use cob_test_rows::{Row, RowFault, TextBuffer, push_digits};
 use std::alloc::Global;
 
 /// The USAGE of this name.
@@ -62,13 +62,15 @@ fn stored(alloc: Global, item: &Item, number: &Number) -> Result<Vec<u8>, RowFau
 }
 
 /// The number that the bytes of an item represent, and the bytes that are stored for it.
-pub(crate) fn push_item(alloc: Global, row: &Row, out: &mut String) -> Result<(), RowFault> {
+pub(crate) fn push_item(alloc: Global, row: &Row, out: &mut TextBuffer) -> Result<(), RowFault> {
     let item = item_of(alloc, row)?;
     let bytes = row.bytes(alloc, 3)?;
     let Some(number) = number_in(&item, bytes.as_slice())? else {
-        return Ok(out.push_str("no number")?);
+        out.push_str("no number");
+        return Ok(());
     };
-    push_number(out, &number)?;
-    out.push_str(", stored as ")?;
-    Ok(push_digits(out, stored(alloc, &item, &number)?.as_slice())?)
+    push_number(out, &number);
+    out.push_str(", stored as ");
+    push_digits(out, stored(alloc, &item, &number)?.as_slice());
+    Ok(())
 }

@@ -11,14 +11,14 @@ mod numbers;
 mod pictures;
 mod storage;
 
-use cob_test_rows::{Family, Row, RowFault};
+use cob_test_rows::{Family, Row, RowFault, TextBuffer};
 use std::alloc::Global;
 
 /// The tables on items and what they are made of.
 pub struct ItemRows;
 
 impl Family for ItemRows {
-    fn answer(alloc: Global, table: &str, row: &Row, out: &mut String) -> Result<(), RowFault> {
+    fn answer(alloc: Global, table: &str, row: &Row, out: &mut TextBuffer) -> Result<(), RowFault> {
         match table {
             "pictures" | "refused_pictures" => pictures::push_read(alloc, row, out),
             "positions" => pictures::push_positions(alloc, row, out),

@@ -3,9 +3,8 @@
 use arrayvec::ArrayVec;
 use cob_decimal::{Digits, Number};
 use cob_limits::{MAX_DIGITS, MAX_SCALE, MIN_SCALE};
-use cob_test_rows::{Row, RowFault, push_text};
-use std::alloc::{AllocError, Global};
-use std::fmt::Write;
+use cob_test_rows::{Row, RowFault, TextBuffer, push_text};
+use std::alloc::Global;
 
 /// The digits of a field of digits between quotes.
 fn digits_at(row: &Row, place: usize) -> Result<Digits, RowFault> {
@@ -43,21 +42,21 @@ fn number_of(row: &Row) -> Result<Number, RowFault> {
 }
 
 /// Writes a number as text, over what stood where it is written.
-pub(crate) fn push_number(out: &mut String, number: &Number) -> Result<(), AllocError> {
+pub(crate) fn push_number(out: &mut TextBuffer, number: &Number) {
     let mut text: ArrayVec<u8, 64> = ArrayVec::new();
     text.push(b'?');
     number.write_text(&mut text);
-    push_text(out, text.as_slice())
+    push_text(out, text.as_slice());
 }
 
 /// Writes the sign, the digits and the scale of a number.
-fn push_parts(out: &mut String, number: &Number) -> Result<(), AllocError> {
-    out.push_str(if number.negative() { "minus" } else { "plus" })?;
-    out.push_str(" \"")?;
+fn push_parts(out: &mut TextBuffer, number: &Number) {
+    out.push_str(if number.negative() { "minus" } else { "plus" });
+    out.push_str(" \"");
     for digit in number.digits().as_slice() {
-        write!(out, "{digit}")?;
+        write!(out, "{digit}");
     }
-    write!(out, "\" scale {}", number.scale())
+    write!(out, "\" scale {}", number.scale());
 }
 
 /// The number that a text is, if it is one.
@@ -72,19 +71,22 @@ pub(crate) fn number_of_text(alloc: Global, row: &Row, place: usize) -> Result<N
 }
 
 /// The parts of the number that a literal is, and its text.
-pub(crate) fn push_literal(alloc: Global, row: &Row, out: &mut String) -> Result<(), RowFault> {
+pub(crate) fn push_literal(alloc: Global, row: &Row, out: &mut TextBuffer) -> Result<(), RowFault> {
     let text = row.quoted_text(alloc, 0)?;
     let Some(number) = read(text.as_slice()) else {
-        return Ok(out.push_str("no literal")?);
+        out.push_str("no literal");
+        return Ok(());
     };
-    push_parts(out, &number)?;
-    out.push_str(", printed ")?;
-    Ok(push_number(out, &number)?)
+    push_parts(out, &number);
+    out.push_str(", printed ");
+    push_number(out, &number);
+    Ok(())
 }
 
 /// The text of a number.
-pub(crate) fn push_printed(row: &Row, out: &mut String) -> Result<(), RowFault> {
-    Ok(push_number(out, &number_of(row)?)?)
+pub(crate) fn push_printed(row: &Row, out: &mut TextBuffer) -> Result<(), RowFault> {
+    push_number(out, &number_of(row)?);
+    Ok(())
 }
 
 /// What a receiver of so many digits, of such a scale, keeps of a number.
@@ -96,16 +98,18 @@ fn aligned(number: &Number, digits: u8, scale: i8, signed: bool) -> Result<Numbe
 }
 
 /// The parts of a number that is aligned to a receiver.
-pub(crate) fn push_aligned(row: &Row, out: &mut String) -> Result<(), RowFault> {
+pub(crate) fn push_aligned(row: &Row, out: &mut TextBuffer) -> Result<(), RowFault> {
     let number = number_of(row)?;
     let signed = is_first(row, 5, "signed", "unsigned")?;
     let aligned = aligned(&number, row.number(3)?, row.number(4)?, signed)?;
-    Ok(push_parts(out, &aligned)?)
+    push_parts(out, &aligned);
+    Ok(())
 }
 
 /// The parts of a copy of a number.
-pub(crate) fn push_copy(row: &Row, out: &mut String) -> Result<(), RowFault> {
-    Ok(push_parts(out, &number_of(row)?.clone())?)
+pub(crate) fn push_copy(row: &Row, out: &mut TextBuffer) -> Result<(), RowFault> {
+    push_parts(out, &number_of(row)?.clone());
+    Ok(())
 }
 
 /// Whether a copy of digits is the other digits.
@@ -114,10 +118,11 @@ fn is_same(digits: &Digits, other: &Digits) -> bool {
 }
 
 /// Whether digits are zero, and whether a copy of them is the other digits.
-pub(crate) fn push_compared(row: &Row, out: &mut String) -> Result<(), RowFault> {
+pub(crate) fn push_compared(row: &Row, out: &mut TextBuffer) -> Result<(), RowFault> {
     let digits = digits_at(row, 0)?;
     let other = digits_at(row, 1)?;
-    out.push_str(if digits.is_zero() { "zero" } else { "not zero" })?;
+    out.push_str(if digits.is_zero() { "zero" } else { "not zero" });
     let is_same = is_same(&digits, &other);
-    Ok(out.push_str(if is_same { ", the same" } else { ", others" })?)
+    out.push_str(if is_same { ", the same" } else { ", others" });
+    Ok(())
 }

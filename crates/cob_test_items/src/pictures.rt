@@ -1,9 +1,8 @@
 //! Pictures.
 
 use cob_picture::{Category, Picture, PictureFault, PositionRole, Run, Symbol};
-use cob_test_rows::{Row, RowFault};
-use std::alloc::{AllocError, Global};
-use std::fmt::Write;
+use cob_test_rows::{Row, RowFault, TextBuffer};
+use std::alloc::Global;
 
 /// The name of a category.
 fn category_name(category: Category) -> &'static str {
@@ -57,7 +56,7 @@ fn role_name(role: PositionRole) -> &'static str {
 }
 
 /// Writes what a picture is: category, size, digits, scale and sign.
-fn push_picture(out: &mut String, picture: &Picture) -> Result<(), AllocError> {
+fn push_picture(out: &mut TextBuffer, picture: &Picture) {
     let name = category_name(picture.category());
     let size = picture.size();
     let digits = picture.digits();
@@ -74,17 +73,16 @@ fn push_picture(out: &mut String, picture: &Picture) -> Result<(), AllocError> {
 }
 
 /// Writes the symbols of a picture, each with how often it stands there.
-fn push_runs(out: &mut String, runs: &[Run]) -> Result<(), AllocError> {
+fn push_runs(out: &mut TextBuffer, runs: &[Run]) {
     for run in runs {
         let symbol = symbol_name(run.symbol);
         let count = run.count;
-        write!(out, " {symbol}({count})")?;
+        write!(out, " {symbol}({count})");
     }
-    Ok(())
 }
 
 /// Writes the positions of a picture that shows a number or is edited, each with its role.
-fn push_roles(out: &mut String, picture: &Picture) -> Result<(), RowFault> {
+fn push_roles(out: &mut TextBuffer, picture: &Picture) -> Result<(), RowFault> {
     let category = picture.category();
     if !category.shows_number() && !category.is_edited() {
         return Err(RowFault::BadRow);
@@ -92,8 +90,8 @@ fn push_roles(out: &mut String, picture: &Picture) -> Result<(), RowFault> {
     for position in picture.positions().as_slice() {
         let symbol = symbol_name(position.symbol);
         let role = role_name(position.role);
-        out.push_str(if out.is_empty() { "" } else { ", " })?;
-        write!(out, "{symbol} {role}")?;
+        out.push_str(if out.is_empty() { "" } else { ", " });
+        write!(out, "{symbol} {role}");
     }
     Ok(())
 }
@@ -122,25 +120,31 @@ pub(crate) fn quoted_picture(alloc: Global, row: &Row) -> Result<Picture, RowFau
 }
 
 /// What the picture of a row is, or its fault.
-pub(crate) fn push_read(alloc: Global, row: &Row, out: &mut String) -> Result<(), RowFault> {
+pub(crate) fn push_read(alloc: Global, row: &Row, out: &mut TextBuffer) -> Result<(), RowFault> {
     let text = row.quoted_text(alloc, 0)?;
     match picture_of_text(text.as_slice()) {
-        Ok(picture) => Ok(push_picture(out, &picture)?),
-        Err(fault) => Ok(write!(out, "{fault} {fault:?}")?),
+        Ok(picture) => push_picture(out, &picture),
+        Err(fault) => write!(out, "{fault} {fault:?}"),
     }
+    Ok(())
 }
 
 /// The positions of the picture of a row, which shows a number or is edited.
-pub(crate) fn push_positions(alloc: Global, row: &Row, out: &mut String) -> Result<(), RowFault> {
+pub(crate) fn push_positions(
+    alloc: Global,
+    row: &Row,
+    out: &mut TextBuffer,
+) -> Result<(), RowFault> {
     let picture = quoted_picture(alloc, row)?;
     push_roles(out, &picture)
 }
 
 /// What a copy of the picture of a row is, and its runs.
-pub(crate) fn push_copy(alloc: Global, row: &Row, out: &mut String) -> Result<(), RowFault> {
+pub(crate) fn push_copy(alloc: Global, row: &Row, out: &mut TextBuffer) -> Result<(), RowFault> {
     let picture = quoted_picture(alloc, row)?;
     let same = picture.clone();
-    push_picture(out, &same)?;
-    out.push_str(", runs")?;
-    Ok(push_runs(out, same.runs())?)
+    push_picture(out, &same);
+    out.push_str(", runs");
+    push_runs(out, same.runs());
+    Ok(())
 }

@@ -8,9 +8,8 @@ use cob_codec::{Binary, Packed, Separate, Shape, Storage, Zoned, read_digits};
 use cob_decimal::{Digits, Number};
 use cob_limits::{MAX_BINARY_DIGITS, MAX_DIGITS, MAX_SCALE, MIN_SCALE};
 use cob_picture::{Category, Picture};
-use cob_test_rows::{Row, RowFault, bytes_of, push_digits};
-use std::alloc::{AllocError, Global};
-use std::fmt::Write;
+use cob_test_rows::{Row, RowFault, TextBuffer, bytes_of, push_digits};
+use std::alloc::Global;
 
 /// The shape of an item, whose digits, scale and sign stand behind its kind of storage.
 fn shape_of(row: &Row) -> Result<Shape, RowFault> {
@@ -51,17 +50,18 @@ fn shape_by(picture: &Picture, leading: bool) -> Result<Shape, RowFault> {
 }
 
 /// The shape of a picture.
-pub(crate) fn push_shape(alloc: Global, row: &Row, out: &mut String) -> Result<(), RowFault> {
+pub(crate) fn push_shape(alloc: Global, row: &Row, out: &mut TextBuffer) -> Result<(), RowFault> {
     let picture = quoted_picture(alloc, row)?;
     let shape = shape_by(&picture, leads(row.field(1)?)?)?;
     let sign = if shape.signed { "signed" } else { "unsigned" };
     let place = if shape.leading { "leading" } else { "trailing" };
-    write!(out, "digits {}, scale {}, ", shape.digits, shape.scale)?;
-    Ok(write!(out, "{sign}, {place}")?)
+    write!(out, "digits {}, scale {}, ", shape.digits, shape.scale);
+    write!(out, "{sign}, {place}");
+    Ok(())
 }
 
 /// Writes a number, or that there is none.
-fn push_found(out: &mut String, number: &Option<Number>) -> Result<(), AllocError> {
+fn push_found(out: &mut TextBuffer, number: &Option<Number>) {
     match number {
         Some(number) => push_number(out, number),
         None => out.push_str("no number"),
@@ -72,14 +72,15 @@ fn push_found(out: &mut String, number: &Option<Number>) -> Result<(), AllocErro
 fn push_represented<S: Storage>(
     shape: &Shape,
     bytes: &[u8],
-    out: &mut String,
+    out: &mut TextBuffer,
 ) -> Result<(), RowFault>
     requires { S.takes shape.now }
 {
     if bytes.len() != usize::from(S::length(shape)) {
         return Err(RowFault::BadRow);
     }
-    Ok(push_found(out, &S::read(shape, bytes))?)
+    push_found(out, &S::read(shape, bytes));
+    Ok(())
 }
 
 /// Writes the number that the bytes of an item of this kind represent.
@@ -87,7 +88,7 @@ fn push_number_in(
     kind: &str,
     shape: &Shape,
     bytes: &[u8],
-    out: &mut String,
+    out: &mut TextBuffer,
 ) -> Result<(), RowFault> {
     match kind {
         "zoned" => push_represented::<Zoned>(shape, bytes, out),
@@ -101,7 +102,7 @@ fn push_number_in(
 }
 
 /// The number that bytes represent.
-pub(crate) fn push_read(alloc: Global, row: &Row, out: &mut String) -> Result<(), RowFault> {
+pub(crate) fn push_read(alloc: Global, row: &Row, out: &mut TextBuffer) -> Result<(), RowFault> {
     let shape = shape_of(row)?;
     let bytes = row.bytes(alloc, 4)?;
     push_number_in(row.field(0)?, &shape, bytes.as_slice(), out)
@@ -128,16 +129,17 @@ fn push_form<S: Storage>(
     alloc: Global,
     shape: &Shape,
     number: &Number,
-    out: &mut String,
+    out: &mut TextBuffer,
 ) -> Result<(), RowFault>
     requires { S.takes shape.now }
 {
     let aligned = number.align(shape.digits, shape.scale, shape.signed);
     let mut bytes = vec![in alloc; 0x55u8; usize::from(S::length(shape))]?;
     let read = stored_and_read::<S>(shape, &aligned, &mut bytes);
-    push_digits(out, bytes.as_slice())?;
-    out.push_str(", read back as ")?;
-    Ok(push_found(out, &read)?)
+    push_digits(out, bytes.as_slice());
+    out.push_str(", read back as ");
+    push_found(out, &read);
+    Ok(())
 }
 
 /// Writes the bytes that an item of this kind has for a number, and the number that they represent.
@@ -146,7 +148,7 @@ fn push_form_of(
     kind: &str,
     shape: &Shape,
     number: &Number,
-    out: &mut String,
+    out: &mut TextBuffer,
 ) -> Result<(), RowFault> {
     match kind {
         "zoned" => push_form::<Zoned>(alloc, shape, number, out),
@@ -160,7 +162,7 @@ fn push_form_of(
 }
 
 /// The bytes that are stored for a number.
-pub(crate) fn push_stored(alloc: Global, row: &Row, out: &mut String) -> Result<(), RowFault> {
+pub(crate) fn push_stored(alloc: Global, row: &Row, out: &mut TextBuffer) -> Result<(), RowFault> {
     let shape = shape_of(row)?;
     let number = number_of_text(alloc, row, 4)?;
     push_form_of(alloc, row.field(0)?, &shape, &number, out)
@@ -175,14 +177,15 @@ fn whole_number(shape: &Shape, bytes: &[u8]) -> Result<Number, RowFault> {
 }
 
 /// The number of all bytes of a row's binary item.
-pub(crate) fn push_whole(alloc: Global, row: &Row, out: &mut String) -> Result<(), RowFault> {
+pub(crate) fn push_whole(alloc: Global, row: &Row, out: &mut TextBuffer) -> Result<(), RowFault> {
     let shape = shape_of(row)?;
     let bytes = row.bytes(alloc, 4)?;
     if row.field(0)? != "binary" {
         return Err(RowFault::BadRow);
     }
     let number = whole_number(&shape, bytes.as_slice())?;
-    Ok(push_number(out, &number)?)
+    push_number(out, &number);
+    Ok(())
 }
 
 /// The number of an item's bytes by any zones.
@@ -199,20 +202,25 @@ fn any_zones_number(kind: &str, shape: &Shape, bytes: &[u8]) -> Result<Option<Nu
 }
 
 /// The number of the bytes of a row's item by any zones.
-pub(crate) fn push_any_zones(alloc: Global, row: &Row, out: &mut String) -> Result<(), RowFault> {
+pub(crate) fn push_any_zones(
+    alloc: Global,
+    row: &Row,
+    out: &mut TextBuffer,
+) -> Result<(), RowFault> {
     let shape = shape_of(row)?;
     let bytes = row.bytes(alloc, 4)?;
     let number = any_zones_number(row.field(0)?, &shape, bytes.as_slice())?;
-    Ok(push_found(out, &number)?)
+    push_found(out, &number);
+    Ok(())
 }
 
 /// Writes digits between quotes.
-fn push_quoted(out: &mut String, digits: &Digits) -> Result<(), AllocError> {
-    out.push('"')?;
+fn push_quoted(out: &mut TextBuffer, digits: &Digits) {
+    out.push('"');
     for digit in digits.as_slice() {
-        write!(out, "{digit}")?;
+        write!(out, "{digit}");
     }
-    out.push('"')
+    out.push('"');
 }
 
 /// The digits that bytes are.
@@ -224,12 +232,17 @@ fn digits_in(bytes: &[u8]) -> Result<Option<Digits>, RowFault> {
 }
 
 /// The digits of bytes that are digits alone.
-pub(crate) fn push_digits_read(alloc: Global, row: &Row, out: &mut String) -> Result<(), RowFault> {
+pub(crate) fn push_digits_read(
+    alloc: Global,
+    row: &Row,
+    out: &mut TextBuffer,
+) -> Result<(), RowFault> {
     let Some(bytes) = bytes_of(alloc, row.quoted(0)?)? else {
         return Err(RowFault::BadRow);
     };
     match digits_in(bytes.as_slice())? {
-        Some(digits) => Ok(push_quoted(out, &digits)?),
-        None => Ok(out.push_str("no digits")?),
+        Some(digits) => push_quoted(out, &digits),
+        None => out.push_str("no digits"),
     }
+    Ok(())
 }

@@ -20,7 +20,7 @@
 use crate::stage::{Scene, Stage};
 use cob_program_commands::{answer, refuse};
 use cob_program_line::LineFault;
-use cob_test_rows::{bytes_of, lines_of, push_digits, push_text};
+use cob_test_rows::{TextBuffer, bytes_of, lines_of, push_digits, push_fields, push_text};
 use std::alloc::{AllocError, Global};
 use std::os::unix::fs::symlink;
 use std::rt::Files;
@@ -33,9 +33,9 @@ fn field_of(line: &str, place: usize) -> &str {
 
 /// Prints a line of a stream behind a mark.
 fn print_line<R: AllocGlobal + Print>(rt: &R, mark: &str, line: &[u8]) -> io::Result<()> {
-    let mut shown = String::new(rt.alloc());
-    push_text(&mut shown, line)?;
-    println!(rt; "{mark} {shown}")
+    let mut shown = TextBuffer::new(rt.alloc());
+    push_text(&mut shown, line);
+    println!(rt; "{mark} {}", shown.into_text()?)
 }
 
 /// Prints the lines of a stream, each behind a mark.
@@ -218,9 +218,9 @@ fn show_file<R: AllocGlobal + Files + Print>(rt: &R, name: &str) -> io::Result<(
     if bytes.is_empty() {
         return println!(rt; "= nothing");
     }
-    let mut digits = String::new(rt.alloc());
-    push_digits(&mut digits, &bytes)?;
-    println!(rt; "= {digits}")
+    let mut digits = TextBuffer::new(rt.alloc());
+    push_digits(&mut digits, &bytes);
+    println!(rt; "= {}", digits.into_text()?)
 }
 
 /// Prints the lines of a text.
@@ -259,14 +259,9 @@ fn step<R: AllocGlobal + Files + Print>(rt: &R, line: &str) -> io::Result<()> {
 
 /// A line of a table with bars for its tabs.
 fn barred(alloc: Global, line: &str) -> Result<String, AllocError> {
-    let mut shown = String::new(alloc);
-    for character in line.chars() {
-        match character {
-            '\t' => shown.push_str(" | ")?,
-            other => shown.push(other)?,
-        }
-    }
-    Ok(shown)
+    let mut shown = TextBuffer::new(alloc);
+    push_fields(&mut shown, line);
+    shown.into_text()
 }
 
 /// Prints a line of a table with bars for its tabs, and does its step.

@@ -16,9 +16,8 @@ use cob_copybook_conditions::{ConditionName, condition_names};
 use cob_limits::MAX_BLOCK;
 use cob_records::{Form, MemSink, MemSource, RecordFault};
 use cob_report_show::{Book, BookRule, Layout, Role, ShowFault, layout_text, show};
-use cob_test_rows::{Family, Row, RowFault};
+use cob_test_rows::{Family, Row, RowFault, TextBuffer};
 use std::alloc::{AllocError, Global};
-use std::fmt::Write;
 
 /// How many bytes an answer may have.
 const ROOM: usize = 8_192;
@@ -57,11 +56,10 @@ fn form_of(written: &str) -> Result<Form, RowFault>
 }
 
 /// Writes printed lines, with a bar at the end of each.
-fn push_lines(out: &mut String, text: &[u8]) -> Result<(), AllocError> {
+fn push_lines(out: &mut TextBuffer, text: &[u8]) {
     for byte in text {
-        out.push(if *byte == b'\n' { '|' } else { *byte as char })?;
+        out.push(if *byte == b'\n' { '|' } else { *byte as char });
     }
-    Ok(())
 }
 
 /// The condition-names of a text.
@@ -72,29 +70,34 @@ fn names_of(alloc: Global, text: &[u8]) -> Result<Vec<ConditionName>, RowFault> 
     }
 }
 
+/// The layout of a text's record.
+fn layout_of(alloc: Global, text: &[u8]) -> Result<Layout, RowFault> {
+    let book = read(alloc, text)?;
+    Ok(Layout::of(alloc, &book)?)
+}
+
 /// Lists the entries of a text with their condition-names.
 fn list_entries(
     alloc: Global,
     text: &[u8],
     sink: &mut MemSink<'_>,
 ) -> Result<Result<(), RecordFault>, RowFault> {
-    let book = read(alloc, text)?;
-    let layout = Layout::of(alloc, &book)?;
     let names = names_of(alloc, text)?;
+    let layout = layout_of(alloc, text)?;
     Ok(layout_text(&layout, &names, sink))
 }
 
 /// The lines of a record's entries, of which the output takes so many bytes.
-fn layout(alloc: Global, row: &Row, room: usize, out: &mut String) -> Result<(), RowFault> {
+fn layout(alloc: Global, row: &Row, room: usize, out: &mut TextBuffer) -> Result<(), RowFault> {
     let text = row.lines(alloc, 1)?;
     let mut room = vec![in alloc; 0u8; room]?;
     let mut sink = MemSink::new(&mut room);
     let answer = list_entries(alloc, text.as_slice(), &mut sink)?;
-    push_lines(out, sink.taken())?;
-    match answer {
-        Ok(()) => Ok(()),
-        Err(fault) => Ok(write!(out, "{fault} after {}", fault.taken())?),
+    push_lines(out, sink.taken());
+    if let Err(fault) = answer {
+        write!(out, "{fault} after {}", fault.taken());
     }
+    Ok(())
 }
 
 /// Lists the records that bytes hold.
@@ -113,31 +116,51 @@ fn list_records(
 }
 
 /// Writes how many records were listed, or what stopped the list.
-fn push_ending(out: &mut String, answer: Result<u64, ShowFault>) -> Result<(), RowFault> {
+fn push_ending(out: &mut TextBuffer, answer: Result<u64, ShowFault>) -> Result<(), RowFault> {
     match answer {
-        Ok(number) => Ok(write!(out, "done {number}")?),
-        Err(ShowFault::Run(fault)) => Ok(write!(out, "{fault} after {}", fault.written)?),
-        Err(ShowFault::Memory) => Err(RowFault::Memory),
+        Ok(number) => write!(out, "done {number}"),
+        Err(ShowFault::Run(fault)) => write!(out, "{fault} after {}", fault.written),
+        Err(ShowFault::Memory) => return Err(RowFault::Memory),
     }
+    Ok(())
 }
 
-/// The lines of records, of which the output takes so many bytes.
-fn records(alloc: Global, row: &Row, room: usize, out: &mut String) -> Result<(), RowFault> {
-    let book = book_of(alloc, row)?;
-    let form = form_of(row.field(2)?)?;
+/// Writes the lines of the records of this form that a row's bytes hold, of which the output takes so many bytes.
+fn push_records(
+    alloc: Global,
+    book: &Book,
+    form: Form,
+    row: &Row,
+    room: usize,
+    out: &mut TextBuffer,
+) -> Result<(), RowFault>
+    requires { HasBlockSize form }
+{
     let bytes = row.bytes(alloc, 3)?;
     let mut room = vec![in alloc; 0u8; room]?;
     let mut sink = MemSink::new(&mut room);
-    let answer = list_records(alloc, &book, form, bytes.as_slice(), &mut sink)?;
-    push_lines(out, sink.taken())?;
+    let answer = list_records(alloc, book, form, bytes.as_slice(), &mut sink)?;
+    push_lines(out, sink.taken());
     push_ending(out, answer)
+}
+
+/// The lines of records, of which the output takes so many bytes.
+fn records(alloc: Global, row: &Row, room: usize, out: &mut TextBuffer) -> Result<(), RowFault> {
+    let form = form_of(row.field(2)?)?;
+    let book = book_of(alloc, row)?;
+    push_records(alloc, &book, form, row, room, out)
 }
 
 /// The tables on printed lines.
 pub(crate) struct ListRows;
 
 impl Family for ListRows {
-    fn answer(alloc: Global, _table: &str, row: &Row, out: &mut String) -> Result<(), RowFault> {
+    fn answer(
+        alloc: Global,
+        _table: &str,
+        row: &Row,
+        out: &mut TextBuffer,
+    ) -> Result<(), RowFault> {
         match row.field(0)? {
             "layout" => layout(alloc, row, ROOM, out),
             "part" => layout(alloc, row, row.number(2)?, out),

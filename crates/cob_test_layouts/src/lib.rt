@@ -19,14 +19,14 @@ mod tables;
 
 pub use crate::books::{book_at, layout_at, read_book};
 pub use crate::constants::constant_of;
-use cob_test_rows::{Family, Row, RowFault};
+use cob_test_rows::{Family, Row, RowFault, TextBuffer};
 use std::alloc::Global;
 
 /// The tables on records.
 pub struct LayoutRows;
 
 impl Family for LayoutRows {
-    fn answer(alloc: Global, table: &str, row: &Row, out: &mut String) -> Result<(), RowFault> {
+    fn answer(alloc: Global, table: &str, row: &Row, out: &mut TextBuffer) -> Result<(), RowFault> {
         match table {
             "fixed" | "varying" | "needed" | "records" => layouts::answer(alloc, row, out),
             "tables" => tables::answer(alloc, row, out),

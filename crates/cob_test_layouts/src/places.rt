@@ -6,7 +6,7 @@
 ghost use Rattle.std.specs.Prelude.{◌≤◌, ◌+◌, IfOk};
 
 use cob_layout::{Place, field, field_mut};
-use cob_test_rows::{Row, RowFault, push_digits};
+use cob_test_rows::{Row, RowFault, TextBuffer, push_digits};
 use std::alloc::Global;
 
 /// The place of a row, which ends within so many bytes.
@@ -22,14 +22,15 @@ fn place_of(row: &Row, bytes: usize) -> Result<Place, RowFault>
 }
 
 /// The bytes of a place.
-fn read(alloc: Global, row: &Row, out: &mut String) -> Result<(), RowFault> {
+fn read(alloc: Global, row: &Row, out: &mut TextBuffer) -> Result<(), RowFault> {
     let record = row.bytes(alloc, 1)?;
     let place = place_of(row, record.len())?;
-    Ok(push_digits(out, field(record.as_slice(), place))?)
+    push_digits(out, field(record.as_slice(), place));
+    Ok(())
 }
 
 /// The record after bytes are written to a place.
-fn write(alloc: Global, row: &Row, out: &mut String) -> Result<(), RowFault> {
+fn write(alloc: Global, row: &Row, out: &mut TextBuffer) -> Result<(), RowFault> {
     let mut record = row.bytes(alloc, 1)?;
     let place = place_of(row, record.len())?;
     let bytes = row.bytes(alloc, 4)?;
@@ -37,11 +38,12 @@ fn write(alloc: Global, row: &Row, out: &mut String) -> Result<(), RowFault> {
         return Err(RowFault::BadRow);
     }
     field_mut(record.as_mut_slice(), place).copy_from_slice(bytes.as_slice());
-    Ok(push_digits(out, record.as_slice())?)
+    push_digits(out, record.as_slice());
+    Ok(())
 }
 
 /// The record after a place is filled with a byte.
-fn fill(alloc: Global, row: &Row, out: &mut String) -> Result<(), RowFault> {
+fn fill(alloc: Global, row: &Row, out: &mut TextBuffer) -> Result<(), RowFault> {
     let mut record = row.bytes(alloc, 1)?;
     let place = place_of(row, record.len())?;
     let bytes = row.bytes(alloc, 4)?;
@@ -49,11 +51,12 @@ fn fill(alloc: Global, row: &Row, out: &mut String) -> Result<(), RowFault> {
         return Err(RowFault::BadRow);
     };
     field_mut(record.as_mut_slice(), place).fill(*byte);
-    Ok(push_digits(out, record.as_slice())?)
+    push_digits(out, record.as_slice());
+    Ok(())
 }
 
 /// Writes the answer to a row's question about the bytes of a place.
-pub(crate) fn answer(alloc: Global, row: &Row, out: &mut String) -> Result<(), RowFault> {
+pub(crate) fn answer(alloc: Global, row: &Row, out: &mut TextBuffer) -> Result<(), RowFault> {
     match row.field(0)? {
         "read" => read(alloc, row, out),
         "write" => write(alloc, row, out),

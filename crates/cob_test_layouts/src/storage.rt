@@ -9,7 +9,7 @@ use cob_copybook::{Book, Text, Value};
 use cob_layout::Layout;
 use cob_limits::MAX_LITERAL;
 use cob_move_initial::{initial, write_group};
-use cob_test_rows::{Row, RowFault, push_digits};
+use cob_test_rows::{Row, RowFault, TextBuffer, push_digits};
 use std::alloc::{AllocError, Global};
 
 /// What stands in bytes before anything is written to them.
@@ -24,9 +24,10 @@ fn begun(alloc: Global, book: &Book) -> Result<Vec<u8>, AllocError> {
 }
 
 /// Writes the storage of a row's record before the first move.
-pub(crate) fn begin(alloc: Global, row: &Row, out: &mut String) -> Result<(), RowFault> {
+pub(crate) fn begin(alloc: Global, row: &Row, out: &mut TextBuffer) -> Result<(), RowFault> {
     let bytes = begun(alloc, &book_of(alloc, row)?)?;
-    Ok(push_digits(out, bytes.as_slice())?)
+    push_digits(out, bytes.as_slice());
+    Ok(())
 }
 
 /// The literal of a field of characters.
@@ -53,10 +54,11 @@ fn value_of(alloc: Global, row: &Row) -> Result<Value, RowFault> {
 }
 
 /// What a group of so many bytes holds whose VALUE is this constant.
-pub(crate) fn constant(alloc: Global, row: &Row, out: &mut String) -> Result<(), RowFault> {
+pub(crate) fn constant(alloc: Global, row: &Row, out: &mut TextBuffer) -> Result<(), RowFault> {
     let value = value_of(alloc, row)?;
     let size: u16 = row.number(3)?;
     let mut bytes = vec![in alloc; UNWRITTEN; usize::from(size)]?;
     write_group(&value, &mut bytes);
-    Ok(push_digits(out, bytes.as_slice())?)
+    push_digits(out, bytes.as_slice());
+    Ok(())
 }

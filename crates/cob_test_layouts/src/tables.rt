@@ -6,33 +6,32 @@
 use crate::books::{book_of, entry_named};
 use cob_copybook::Node;
 use cob_layout_places::{Table, tables, times_of};
-use cob_test_rows::{Row, RowFault};
+use cob_test_rows::{Row, RowFault, TextBuffer};
 use std::alloc::{AllocError, Global};
-use std::fmt::Write;
 
 /// Writes a table: its entry's number, its least and greatest number of elements, and the number of its count's entry.
-fn push_table(out: &mut String, table: &Table) -> Result<(), AllocError> {
-    write!(out, "{}: {} to ", table.number, table.least)?;
-    write!(out, "{} by {}", table.most, table.count)
+fn push_table(out: &mut TextBuffer, table: &Table) {
+    write!(out, "{}: {} to ", table.number, table.least);
+    write!(out, "{} by {}", table.most, table.count);
 }
 
 /// Writes tables.
-fn push_tables(out: &mut String, tables: &[Table]) -> Result<(), AllocError> {
+fn push_tables(out: &mut TextBuffer, tables: &[Table]) {
     for table in tables {
-        out.push_str(if out.is_empty() { "" } else { ", " })?;
-        push_table(out, table)?;
+        out.push_str(if out.is_empty() { "" } else { ", " });
+        push_table(out, table);
     }
-    Ok(())
 }
 
 /// Writes the tables that vary, of a record with this root.
-fn push_varying(alloc: Global, root: &Node, out: &mut String) -> Result<(), AllocError> {
+fn push_varying(alloc: Global, root: &Node, out: &mut TextBuffer) -> Result<(), AllocError> {
     let tables = tables(alloc, root)?;
-    push_tables(out, tables.as_slice())
+    push_tables(out, tables.as_slice());
+    Ok(())
 }
 
 /// The tables that vary.
-fn tables_in_order(alloc: Global, row: &Row, out: &mut String) -> Result<(), RowFault> {
+fn tables_in_order(alloc: Global, row: &Row, out: &mut TextBuffer) -> Result<(), RowFault> {
     let book = book_of(alloc, row)?;
     Ok(push_varying(alloc, book.root(), out)?)
 }
@@ -53,22 +52,23 @@ fn counts_of(alloc: Global, written: &str) -> Result<Vec<u32>, RowFault> {
 }
 
 /// Writes how often the entry of a row occurs under its counts, in a record with this root.
-fn push_times(alloc: Global, root: &Node, row: &Row, out: &mut String) -> Result<(), RowFault> {
+fn push_times(alloc: Global, root: &Node, row: &Row, out: &mut TextBuffer) -> Result<(), RowFault> {
     let Some(entry) = entry_named(root, row.field(2)?) else {
         return Err(RowFault::BadRow);
     };
     let counts = counts_of(alloc, row.field(3)?)?;
-    Ok(write!(out, "{}", times_of(entry, counts.as_slice()))?)
+    write!(out, "{}", times_of(entry, counts.as_slice()));
+    Ok(())
 }
 
 /// How often an entry occurs under counts.
-fn times(alloc: Global, row: &Row, out: &mut String) -> Result<(), RowFault> {
+fn times(alloc: Global, row: &Row, out: &mut TextBuffer) -> Result<(), RowFault> {
     let book = book_of(alloc, row)?;
     push_times(alloc, book.root(), row, out)
 }
 
 /// Writes the answer to a row's question about a record's tables.
-pub(crate) fn answer(alloc: Global, row: &Row, out: &mut String) -> Result<(), RowFault> {
+pub(crate) fn answer(alloc: Global, row: &Row, out: &mut TextBuffer) -> Result<(), RowFault> {
     match row.field(0)? {
         "tables" => tables_in_order(alloc, row, out),
         "times" => times(alloc, row, out),

@@ -15,14 +15,14 @@ mod template;
 mod templates;
 
 use cob_test_layouts::LayoutRows;
-use cob_test_rows::{Family, Row, RowFault};
+use cob_test_rows::{Family, Row, RowFault, TextBuffer};
 use std::alloc::Global;
 
 /// The tables on moves and on their records.
 pub struct MoveRows;
 
 impl Family for MoveRows {
-    fn answer(alloc: Global, table: &str, row: &Row, out: &mut String) -> Result<(), RowFault> {
+    fn answer(alloc: Global, table: &str, row: &Row, out: &mut TextBuffer) -> Result<(), RowFault> {
         match table {
             "groups" | "characters" | "numbers" | "edited" | "figurative" | "literals" | "whole" =>
                 moves::answer(alloc, row, out),

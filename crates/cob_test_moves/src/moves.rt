@@ -15,8 +15,8 @@ use cob_copybook::Role;
 use cob_copybook_tree::{Item, Kind, is_number, is_number_item};
 use cob_move_receive::{Refusal, SenderKind, Sent, receive, refusal_of};
 use cob_test_layouts::{book_at, constant_of};
-use cob_test_rows::{Row, RowFault, push_digits};
-use std::alloc::{AllocError, Global};
+use cob_test_rows::{Row, RowFault, TextBuffer, push_digits};
+use std::alloc::Global;
 
 /// What stands in a receiver's bytes before the move.
 const UNWRITTEN: u8 = 0xAA;
@@ -52,22 +52,15 @@ fn rule_name(refusal: Refusal) -> &'static str {
 }
 
 /// Writes that there is no value, and whether the receiver is changed all the same.
-fn push_no_value(out: &mut String, bytes: &[u8]) -> Result<(), AllocError> {
-    out.push_str("no value")?;
-    if bytes.iter().all(|byte| *byte == UNWRITTEN) {
-        Ok(())
-    } else {
-        out.push_str(", and the receiver is changed")
+fn push_no_value(out: &mut TextBuffer, bytes: &[u8]) {
+    out.push_str("no value");
+    if bytes.iter().any(|byte| *byte != UNWRITTEN) {
+        out.push_str(", and the receiver is changed");
     }
 }
 
 /// Writes what a receiver holds after the move of a sender, or that there is no value.
-fn push_received(
-    given: &Sent<'_>,
-    to: &Kind,
-    bytes: &mut [u8],
-    out: &mut String,
-) -> Result<(), AllocError>
+fn push_received(given: &Sent<'_>, to: &Kind, bytes: &mut [u8], out: &mut TextBuffer)
     requires given { HasAllBytes (sent given.now) }
     requires receiver { Occupies to.now (length bytes.old) }
 {
@@ -93,18 +86,20 @@ fn push_outcome(
     given: &Sent<'_>,
     to: &Kind,
     size: usize,
-    out: &mut String,
+    out: &mut TextBuffer,
 ) -> Result<(), RowFault>
     requires { HasAllBytes (sent given.now) }
 {
     if let Some(name) = refusal_name(from, to) {
-        return Ok(out.push_str(name)?);
+        out.push_str(name);
+        return Ok(());
     }
     if !has_bytes(to, size) {
         return Err(RowFault::BadRow);
     }
     let mut bytes = vec![in alloc; UNWRITTEN; size]?;
-    Ok(push_received(given, to, &mut bytes, out)?)
+    push_received(given, to, &mut bytes, out);
+    Ok(())
 }
 
 /// Writes what comes of a move to the receiver of a field.
@@ -114,7 +109,7 @@ fn push_move(
     given: &Sent<'_>,
     row: &Row,
     place: usize,
-    out: &mut String,
+    out: &mut TextBuffer,
 ) -> Result<(), RowFault>
     requires { HasAllBytes (sent given.now) }
 {
@@ -130,7 +125,7 @@ fn move_bytes(
     size: usize,
     reading: Reading,
     row: &Row,
-    out: &mut String,
+    out: &mut TextBuffer,
 ) -> Result<(), RowFault> {
     let bytes = row.bytes(alloc, 2)?;
     if bytes.len() != size || !has_bytes(kind, bytes.len()) {
@@ -149,7 +144,7 @@ fn move_entry(
     alloc: Global,
     reading: Reading,
     row: &Row,
-    out: &mut String,
+    out: &mut TextBuffer,
 ) -> Result<(), RowFault> {
     let book = book_at(alloc, Role::Out, row, 1)?;
     let size = usize::from(book.greatest());
@@ -157,7 +152,7 @@ fn move_entry(
 }
 
 /// Writes what comes of the move of a constant.
-fn move_constant(alloc: Global, row: &Row, out: &mut String) -> Result<(), RowFault> {
+fn move_constant(alloc: Global, row: &Row, out: &mut TextBuffer) -> Result<(), RowFault> {
     let value = constant_of(row.field(1)?)?;
     push_move(
         alloc,
@@ -170,7 +165,7 @@ fn move_constant(alloc: Global, row: &Row, out: &mut String) -> Result<(), RowFa
 }
 
 /// Writes the answer to a row's question about a move.
-pub(crate) fn answer(alloc: Global, row: &Row, out: &mut String) -> Result<(), RowFault> {
+pub(crate) fn answer(alloc: Global, row: &Row, out: &mut TextBuffer) -> Result<(), RowFault> {
     match row.field(0)? {
         "entry" => move_entry(alloc, Reading::Pictured, row, out),
         "whole" => move_entry(alloc, Reading::Whole, row, out),

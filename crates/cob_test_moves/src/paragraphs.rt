@@ -12,9 +12,8 @@ use cob_copybook::Role;
 use cob_layout::Layout;
 use cob_move::{ConditionNames, MoveFault, MoveRule, Paragraph};
 use cob_test_layouts::layout_at;
-use cob_test_rows::{Row, RowFault};
-use std::alloc::{AllocError, Global};
-use std::fmt::Write;
+use cob_test_rows::{Row, RowFault, TextBuffer};
+use std::alloc::Global;
 
 /// The paragraph of a row.
 fn text_of(alloc: Global, row: &Row) -> Result<Vec<u8>, RowFault> {
@@ -42,30 +41,33 @@ pub(crate) fn read_paragraph(
 }
 
 /// Writes how many moves a paragraph has, and how many steps where these are asked for.
-fn push_moves(out: &mut String, paragraph: &Paragraph, has_steps: bool) -> Result<(), AllocError> {
-    write!(out, "moves {}", paragraph.moves())?;
+fn push_moves(out: &mut TextBuffer, paragraph: &Paragraph, has_steps: bool) {
+    write!(out, "moves {}", paragraph.moves());
     if has_steps {
-        write!(out, " steps {}", paragraph.steps())?;
+        write!(out, " steps {}", paragraph.steps());
     }
-    Ok(())
 }
 
 /// Writes why there is no paragraph.
-fn push_fault(out: &mut String, fault: MoveFault) -> Result<(), RowFault> {
+fn push_fault(out: &mut TextBuffer, fault: MoveFault) -> Result<(), RowFault> {
     if fault.rule == MoveRule::Memory {
         return Err(RowFault::Memory);
     }
-    Ok(write!(out, "{fault}")?)
+    write!(out, "{fault}");
+    Ok(())
 }
 
 /// Writes what came of a paragraph.
 fn push_read(
-    out: &mut String,
+    out: &mut TextBuffer,
     read: Result<Paragraph, MoveFault>,
     has_steps: bool,
 ) -> Result<(), RowFault> {
     match read {
-        Ok(paragraph) => Ok(push_moves(out, &paragraph, has_steps)?),
+        Ok(paragraph) => {
+            push_moves(out, &paragraph, has_steps);
+            Ok(())
+        }
         Err(fault) => push_fault(out, fault),
     }
 }
@@ -77,7 +79,7 @@ fn push_between(
     output: &Layout,
     row: &Row,
     has_steps: bool,
-    out: &mut String,
+    out: &mut TextBuffer,
 ) -> Result<(), RowFault> {
     let text = text_of(alloc, row)?;
     let read = read_paragraph(alloc, input, output, text.as_slice());
@@ -90,7 +92,7 @@ fn push_from(
     input: &Layout,
     row: &Row,
     has_steps: bool,
-    out: &mut String,
+    out: &mut TextBuffer,
 ) -> Result<(), RowFault> {
     let output = layout_at(alloc, Role::Out, row, 2)?;
     push_between(alloc, input, &output, row, has_steps, out)
@@ -101,7 +103,7 @@ pub(crate) fn answer(
     alloc: Global,
     row: &Row,
     has_steps: bool,
-    out: &mut String,
+    out: &mut TextBuffer,
 ) -> Result<(), RowFault> {
     let input = layout_at(alloc, Role::In, row, 1)?;
     push_from(alloc, &input, row, has_steps, out)

@@ -5,8 +5,8 @@ use cob_copybook::{BookFault, BookRule, Role};
 use cob_layout::Layout;
 use cob_move::MoveFault;
 use cob_test_layouts::read_book;
-use std::alloc::{AllocError, Global};
-use std::fmt::Write;
+use cob_test_rows::TextBuffer;
+use std::alloc::Global;
 
 /// What the texts of a template are.
 #[derive(Clone, Copy)]
@@ -32,12 +32,12 @@ fn moves_of(alloc: Global, input: &Layout, output: &Layout, text: &[u8]) -> Resu
 }
 
 /// Reads a copybook, and answers the greatest length of its record; or writes why it was refused.
-fn read_length(alloc: Global, text: &[u8], out: &mut String) -> Result<Option<u32>, AllocError> {
+fn read_length(alloc: Global, text: &[u8], out: &mut TextBuffer) -> Option<u32> {
     match length_of(alloc, text) {
-        Ok(length) => Ok(Some(u32::from(length))),
+        Ok(length) => Some(u32::from(length)),
         Err(fault) => {
-            write!(out, "{fault}")?;
-            Ok(None)
+            write!(out, "{fault}");
+            None
         }
     }
 }
@@ -48,25 +48,20 @@ fn read_moves(
     input: &Layout,
     output: &Layout,
     text: &[u8],
-    out: &mut String,
-) -> Result<Option<u32>, AllocError> {
+    out: &mut TextBuffer,
+) -> Option<u32> {
     match moves_of(alloc, input, output, text) {
-        Ok(moves) => Ok(Some(moves)),
+        Ok(moves) => Some(moves),
         Err(fault) => {
-            write!(out, "{fault}")?;
-            Ok(None)
+            write!(out, "{fault}");
+            None
         }
     }
 }
 
 impl Reader<'_> {
     /// Reads a text, and answers its size; or writes why it was refused.
-    pub(crate) fn read(
-        self,
-        alloc: Global,
-        text: &[u8],
-        out: &mut String,
-    ) -> Result<Option<u32>, AllocError> {
+    pub(crate) fn read(self, alloc: Global, text: &[u8], out: &mut TextBuffer) -> Option<u32> {
         match self {
             Reader::Copybooks => read_length(alloc, text, out),
             Reader::Paragraphs(input, output) => read_moves(alloc, input, output, text, out),

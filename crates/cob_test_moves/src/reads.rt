@@ -14,16 +14,15 @@ use cob_layout::Layout;
 use cob_move::{Paragraph, Scratch, Stop, apply};
 use cob_move_initial::initial;
 use cob_test_layouts::{book_at, layout_at};
-use cob_test_rows::{Row, RowFault};
+use cob_test_rows::{Row, RowFault, TextBuffer};
 use std::alloc::{AllocError, Global};
-use std::fmt::Write;
 
 /// Writes how many count items were read, behind the stop if there was one.
-fn push_reads(out: &mut String, answer: Result<(), Stop>, reads: u64) -> Result<(), AllocError> {
+fn push_reads(out: &mut TextBuffer, answer: Result<(), Stop>, reads: u64) {
     if let Err(stop) = answer {
-        write!(out, "stop at {}, ", stop.offset)?;
+        write!(out, "stop at {}, ", stop.offset);
     }
-    write!(out, "reads {reads}")
+    write!(out, "reads {reads}");
 }
 
 /// Carries out a paragraph, and writes how many count items of the output record were read.
@@ -33,7 +32,7 @@ fn push_applied(
     records: (&Layout, &Layout),
     input: &[u8],
     output: &mut [u8],
-    out: &mut String,
+    out: &mut TextBuffer,
 ) -> Result<(), AllocError>
     requires ready { IsReadyFor (both records.0.now records.1.now) paragraph.now }
     requires input { length input.now ≡ greatest_length records.0.now }
@@ -42,7 +41,8 @@ fn push_applied(
     let (from, to) = records;
     let mut scratch = Scratch::new(alloc, from, to)?;
     let answer = apply(paragraph, from, to, input, output, &mut scratch);
-    push_reads(out, answer, scratch.reads())
+    push_reads(out, answer, scratch.reads());
+    Ok(())
 }
 
 /// Carries out a paragraph over the input record of a row, and writes how many count items of the output record were read.
@@ -52,7 +52,7 @@ fn push_over(
     records: (&Layout, &Layout),
     row: &Row,
     output: &mut [u8],
-    out: &mut String,
+    out: &mut TextBuffer,
 ) -> Result<(), RowFault>
     requires ready { IsReadyFor (both records.0.now records.1.now) paragraph.now }
     requires output { length output.old ≡ greatest_length records.1.now }
@@ -70,7 +70,7 @@ fn push_paragraph(
     records: (&Layout, &Layout),
     row: &Row,
     output: &mut [u8],
-    out: &mut String,
+    out: &mut TextBuffer,
 ) -> Result<(), RowFault>
     requires output { length output.old ≡ greatest_length records.1.now }
 {
@@ -88,7 +88,7 @@ fn push_between(
     to: &Layout,
     book: &Book,
     row: &Row,
-    out: &mut String,
+    out: &mut TextBuffer,
 ) -> Result<(), RowFault>
     requires same { book.now ≡ to.now }
 {
@@ -98,14 +98,19 @@ fn push_between(
 }
 
 /// The same for the output record of a row.
-fn push_from(alloc: Global, from: &Layout, row: &Row, out: &mut String) -> Result<(), RowFault> {
+fn push_from(
+    alloc: Global,
+    from: &Layout,
+    row: &Row,
+    out: &mut TextBuffer,
+) -> Result<(), RowFault> {
     let book = book_at(alloc, Role::Out, row, 2)?;
     let to = Layout::of(alloc, &book)?;
     push_between(alloc, from, &to, &book, row, out)
 }
 
 /// Writes the answer to a row's question about the reads of a paragraph.
-pub(crate) fn answer(alloc: Global, row: &Row, out: &mut String) -> Result<(), RowFault> {
+pub(crate) fn answer(alloc: Global, row: &Row, out: &mut TextBuffer) -> Result<(), RowFault> {
     let from = layout_at(alloc, Role::In, row, 1)?;
     push_from(alloc, &from, row, out)
 }

@@ -15,9 +15,8 @@ use crate::template::Template;
 use cob_copybook::Role;
 use cob_layout::Layout;
 use cob_test_layouts::layout_at;
-use cob_test_rows::{Row, RowFault, lines_of, unescaped};
+use cob_test_rows::{Row, RowFault, TextBuffer, lines_of, unescaped};
 use std::alloc::Global;
-use std::fmt::Write;
 
 /// The source text that a text of a template stands for.
 fn source_of(alloc: Global, question: &str, text: &str) -> Result<Vec<u8>, RowFault> {
@@ -33,12 +32,12 @@ fn read_text(
     question: &str,
     text: &str,
     reader: Reader<'_>,
-    out: &mut String,
+    out: &mut TextBuffer,
 ) -> Result<Option<u32>, RowFault> {
     let source = source_of(alloc, question, text)?;
-    let size = reader.read(alloc, source.as_slice(), out)?;
+    let size = reader.read(alloc, source.as_slice(), out);
     if size.is_none() {
-        write!(out, ": {text}")?;
+        write!(out, ": {text}");
     }
     Ok(size)
 }
@@ -49,7 +48,7 @@ fn read_each(
     question: &str,
     template: &Template<'_>,
     reader: Reader<'_>,
-    out: &mut String,
+    out: &mut TextBuffer,
 ) -> Result<(), RowFault> {
     let texts = template.texts().ok_or(RowFault::BadRow)?;
     let mut least = u32::MAX;
@@ -63,7 +62,8 @@ fn read_each(
         most = size.max(most);
     }
     let sizes = reader.sizes();
-    Ok(write!(out, "{texts} texts, each read, {sizes} {least} to {most}")?)
+    write!(out, "{texts} texts, each read, {sizes} {least} to {most}");
+    Ok(())
 }
 
 /// Reads each text of the template of a field.
@@ -72,7 +72,7 @@ fn read_template(
     row: &Row,
     place: usize,
     reader: Reader<'_>,
-    out: &mut String,
+    out: &mut TextBuffer,
 ) -> Result<(), RowFault> {
     let question = row.field(0)?;
     match Template::read(alloc, row.field(place)?)? {
@@ -82,18 +82,31 @@ fn read_template(
 }
 
 /// Writes the answer to a row's question about a template of copybooks.
-pub(crate) fn read_copybooks(alloc: Global, row: &Row, out: &mut String) -> Result<(), RowFault> {
+pub(crate) fn read_copybooks(
+    alloc: Global,
+    row: &Row,
+    out: &mut TextBuffer,
+) -> Result<(), RowFault> {
     read_template(alloc, row, 1, Reader::Copybooks, out)
 }
 
 /// Reads each text of a row's template of paragraphs between this input record and the output record of the row.
-fn read_from(alloc: Global, input: &Layout, row: &Row, out: &mut String) -> Result<(), RowFault> {
+fn read_from(
+    alloc: Global,
+    input: &Layout,
+    row: &Row,
+    out: &mut TextBuffer,
+) -> Result<(), RowFault> {
     let output = layout_at(alloc, Role::Out, row, 2)?;
     read_template(alloc, row, 3, Reader::Paragraphs(input, &output), out)
 }
 
 /// Writes the answer to a row's question about a template of paragraphs.
-pub(crate) fn read_paragraphs(alloc: Global, row: &Row, out: &mut String) -> Result<(), RowFault> {
+pub(crate) fn read_paragraphs(
+    alloc: Global,
+    row: &Row,
+    out: &mut TextBuffer,
+) -> Result<(), RowFault> {
     let input = layout_at(alloc, Role::In, row, 1)?;
     read_from(alloc, &input, row, out)
 }

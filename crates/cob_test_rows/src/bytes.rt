@@ -1,7 +1,7 @@
 ghost use Rattle.std.specs.Prelude.{◌<◌, length, IfSome};
 
+use crate::TextBuffer;
 use std::alloc::{AllocError, Global};
-use std::fmt::Write;
 
 /// The value of a hexadecimal digit.
 fn digit_of(digit: u8) -> Option<u8>
@@ -104,28 +104,20 @@ pub fn lines_of(alloc: Global, entries: &str) -> Result<Vec<u8>, AllocError> {
 }
 
 /// Writes bytes as pairs of hexadecimal digits.
-///
-/// # Errors
-/// Only where memory is refused.
-pub fn push_digits(out: &mut String, bytes: &[u8]) -> Result<(), AllocError> {
+pub fn push_digits(out: &mut TextBuffer, bytes: &[u8]) {
     for byte in bytes {
-        write!(out, "{byte:02X}")?;
+        write!(out, "{byte:02X}");
     }
-    Ok(())
 }
 
 /// Writes bytes as the characters that they are in ASCII, in the form that `unescaped` reads: a backslash as two, and what is no
 /// printable character as `\x` and its hexadecimal digits.
-///
-/// # Errors
-/// Only where memory is refused.
-pub fn push_text(out: &mut String, bytes: &[u8]) -> Result<(), AllocError> {
+pub fn push_text(out: &mut TextBuffer, bytes: &[u8]) {
     for byte in bytes {
         match *byte {
-            b'\\' => out.push_str("\\\\")?,
-            b' '..=b'~' => out.push(*byte as char)?,
-            _ => write!(out, "\\x{byte:02X}")?,
+            b'\\' => out.push_str("\\\\"),
+            b' '..=b'~' => out.push(*byte as char),
+            _ => write!(out, "\\x{byte:02X}"),
         }
     }
-    Ok(())
 }

@@ -1,4 +1,4 @@
-use crate::{bytes_of, lines_of, unescaped};
+use crate::{TextBuffer, bytes_of, lines_of, unescaped};
 use std::alloc::{AllocError, AllocFailed, Global};
 use std::rt::Files;
 use std::str::FromStr;
@@ -31,7 +31,7 @@ pub trait Family {
     ///
     /// # Errors
     /// That the row can't be understood, or that memory is refused.
-    fn answer(alloc: Global, table: &str, row: &Row, out: &mut String) -> Result<(), RowFault>;
+    fn answer(alloc: Global, table: &str, row: &Row, out: &mut TextBuffer) -> Result<(), RowFault>;
 }
 
 /// A row of a table: fields that are parted by tabs, each at its place, from 0.
@@ -122,15 +122,21 @@ fn is_row(line: &str) -> bool {
     !line.trim().is_empty() && !line.starts_with('#')
 }
 
-/// Writes a row with bars between its fields.
-fn push_fields(out: &mut String, line: &str) -> Result<(), AllocError> {
+/// Writes a line with bars between its fields.
+pub fn push_fields(out: &mut TextBuffer, line: &str) {
     for character in line.chars() {
         match character {
-            '\t' => out.push_str(" | ")?,
-            other => out.push(other)?,
+            '\t' => out.push_str(" | "),
+            other => out.push(other),
         }
     }
-    Ok(())
+}
+
+/// What a row is answered.
+fn answer_to<F: Family>(alloc: Global, table: &str, line: &str) -> Result<String, RowFault> {
+    let mut answer = TextBuffer::new(alloc);
+    F::answer(alloc, table, &Row { line }, &mut answer)?;
+    Ok(answer.into_text()?)
 }
 
 /// Writes what comes of a row behind it.
@@ -138,17 +144,14 @@ fn push_answer<F: Family>(
     alloc: Global,
     table: &str,
     line: &str,
-    out: &mut String,
+    out: &mut TextBuffer,
 ) -> Result<(), AllocError> {
-    let mut answer = String::new(alloc);
-    match F::answer(alloc, table, &Row { line }, &mut answer) {
-        Ok(()) => {
-            out.push_str(" -> ")?;
-            out.push_str(answer.as_str())
-        }
+    match answer_to::<F>(alloc, table, line) {
+        Ok(answer) => write!(out, " -> {answer}"),
         Err(RowFault::BadRow) => out.push_str(" -> BAD ROW"),
-        Err(RowFault::Memory) => Err(AllocError),
+        Err(RowFault::Memory) => return Err(AllocError),
     }
+    Ok(())
 }
 
 /// A line of a table with what comes of it.
@@ -156,10 +159,10 @@ fn answered<F: Family>(alloc: Global, table: &str, line: &str) -> Result<String,
     if !is_row(line) {
         return String::from_str(alloc, line);
     }
-    let mut out = String::new(alloc);
-    push_fields(&mut out, line)?;
+    let mut out = TextBuffer::new(alloc);
+    push_fields(&mut out, line);
     push_answer::<F>(alloc, table, line, &mut out)?;
-    Ok(out)
+    out.into_text()
 }
 
 /// Prints the lines of a table, each row with what comes of it.

@@ -255,8 +255,7 @@ fn print_job(
     room: &mut [u8],
     figures: &mut Figures,
 ) -> Result<(), Refused> {
-    let mut text = String::new(alloc);
-    job.push_text(&mut text)?;
+    let text = job.text(alloc)?;
     did(does_text(alloc, text.as_bytes(), room, figures), "job")
 }
 

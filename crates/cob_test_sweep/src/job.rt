@@ -10,7 +10,7 @@ use crate::statements::push_statements;
 use crate::style::Style;
 use crate::values::push_record;
 use cob_records::Form;
-use cob_test_rows::push_digits;
+use cob_test_rows::{TextBuffer, push_digits};
 use std::alloc::{AllocError, Global};
 
 /// A job of the sweep: its forms, its texts and its data.
@@ -44,6 +44,41 @@ fn letter(form: Form) -> &'static str {
     } else {
         "f\n"
     }
+}
+
+/// The copybook of the input record.
+fn in_book_of(alloc: Global, style: &Style, entries: &[Entry<'_>]) -> Result<String, AllocError> {
+    let mut text = TextBuffer::new(alloc);
+    text.push_str(style.input.entry);
+    push_senders(&mut text, style, entries);
+    text.into_text()
+}
+
+/// The copybook of the output record.
+fn out_book_of(
+    alloc: Global,
+    draw: &mut Draw,
+    style: &Style,
+    counts: &[Entry<'_>],
+    others: &[Entry<'_>],
+) -> Result<String, AllocError> {
+    let mut text = TextBuffer::new(alloc);
+    text.push_str(style.output.entry);
+    push_receivers(&mut text, draw, style, counts, others);
+    text.into_text()
+}
+
+/// The paragraph.
+fn moves_of(
+    alloc: Global,
+    draw: &mut Draw,
+    style: &Style,
+    counts: &[Entry<'_>],
+    others: &[Entry<'_>],
+) -> Result<String, AllocError> {
+    let mut text = TextBuffer::new(alloc);
+    push_statements(&mut text, draw, style, counts, others);
+    text.into_text()
 }
 
 impl SweepJob {
@@ -91,24 +126,24 @@ impl SweepJob {
         style: &Style,
         entries: &[Entry<'_>],
     ) -> Result<(), AllocError> {
-        self.in_book.push_str(style.input.entry)?;
-        push_senders(&mut self.in_book, style, entries)?;
+        self.in_book = in_book_of(alloc, style, entries)?;
         let counts = named(alloc, entries, true)?;
         let others = named(alloc, entries, false)?;
-        self.write_receivers(draw, style, counts.as_slice(), others.as_slice())
+        self.write_receivers(alloc, draw, style, counts.as_slice(), others.as_slice())
     }
 
     /// Writes the output record, and the paragraph.
     fn write_receivers(
         &mut self,
+        alloc: Global,
         draw: &mut Draw,
         style: &Style,
         counts: &[Entry<'_>],
         others: &[Entry<'_>],
     ) -> Result<(), AllocError> {
-        self.out_book.push_str(style.output.entry)?;
-        push_receivers(&mut self.out_book, draw, style, counts, others)?;
-        push_statements(&mut self.moves, draw, style, counts, others)
+        self.out_book = out_book_of(alloc, draw, style, counts, others)?;
+        self.moves = moves_of(alloc, draw, style, counts, others)?;
+        Ok(())
     }
 
     /// Writes one to three records.
@@ -125,18 +160,20 @@ impl SweepJob {
         Ok(())
     }
 
-    /// Writes the job as one text.
-    pub(crate) fn push_text(&self, text: &mut String) -> Result<(), AllocError> {
-        text.push_str("=IN ")?;
-        text.push_str(letter(self.in_form))?;
-        text.push_str(self.in_book.as_str())?;
-        text.push_str("=OUT ")?;
-        text.push_str(letter(self.out_form))?;
-        text.push_str(self.out_book.as_str())?;
-        text.push_str("=MOVE\n")?;
-        text.push_str(self.moves.as_str())?;
-        text.push_str("=DATA\n")?;
-        push_digits(text, &self.data)?;
-        text.push('\n')
+    /// The job as one text.
+    pub(crate) fn text(&self, alloc: Global) -> Result<String, AllocError> {
+        let mut text = TextBuffer::new(alloc);
+        text.push_str("=IN ");
+        text.push_str(letter(self.in_form));
+        text.push_str(self.in_book.as_str());
+        text.push_str("=OUT ");
+        text.push_str(letter(self.out_form));
+        text.push_str(self.out_book.as_str());
+        text.push_str("=MOVE\n");
+        text.push_str(self.moves.as_str());
+        text.push_str("=DATA\n");
+        push_digits(&mut text, &self.data);
+        text.push('\n');
+        text.into_text()
     }
 }

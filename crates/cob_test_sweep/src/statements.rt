@@ -3,7 +3,7 @@
 use crate::draw::Draw;
 use crate::entries::{Entry, Times, with_table};
 use crate::style::{Record, Style, push_number};
-use std::alloc::AllocError;
+use cob_test_rows::TextBuffer;
 
 /// The numbers that the counter of a loop takes: the first, how much it grows, and the one that it does not pass.
 #[derive(Clone, Copy)]
@@ -37,59 +37,52 @@ fn subscript(draw: &mut Draw, times: Times) -> Option<u64> {
 }
 
 /// Writes the subscripts of tables, and behind them the counter of a loop, if it has a name.
-fn push_subscripts(
-    text: &mut String,
-    draw: &mut Draw,
-    tables: &[Times],
-    counter: &str,
-) -> Result<(), AllocError> {
+fn push_subscripts(text: &mut TextBuffer, draw: &mut Draw, tables: &[Times], counter: &str) {
     let mut before = " (";
     for times in tables {
         if let Some(subscript) = subscript(draw, *times) {
-            text.push_str(before)?;
-            push_number(text, subscript)?;
+            text.push_str(before);
+            push_number(text, subscript);
             before = " ";
         }
     }
     if counter != "" {
-        text.push_str(before)?;
-        text.push_str(counter)?;
+        text.push_str(before);
+        text.push_str(counter);
         before = " ";
     }
     if before == " " {
-        text.push(')')
-    } else {
-        Ok(())
+        text.push(')');
     }
 }
 
 /// Writes the element of an entry of a record.
 fn push_reference(
-    text: &mut String,
+    text: &mut TextBuffer,
     draw: &mut Draw,
     style: &Style,
     number: u64,
     record: Record,
     tables: &[Times],
     counter: &str,
-) -> Result<(), AllocError> {
-    text.push_str("\n               ")?;
-    style.push_name(text, number)?;
-    text.push_str(" OF ")?;
-    text.push_str(record.name)?;
-    push_subscripts(text, draw, tables, counter)
+) {
+    text.push_str("\n               ");
+    style.push_name(text, number);
+    text.push_str(" OF ");
+    text.push_str(record.name);
+    push_subscripts(text, draw, tables, counter);
 }
 
 /// Writes the words that move an entry to the one of its name, where the counter of a loop is the last subscript of both.
 fn push_words(
-    text: &mut String,
+    text: &mut TextBuffer,
     draw: &mut Draw,
     style: &Style,
     entry: &Entry<'_>,
     counter: &str,
-) -> Result<(), AllocError> {
+) {
     let number = entry.number;
-    text.push_str("           MOVE")?;
+    text.push_str("           MOVE");
     push_reference(
         text,
         draw,
@@ -98,8 +91,8 @@ fn push_words(
         style.input,
         &entry.tables,
         counter,
-    )?;
-    text.push_str("\n               TO")?;
+    );
+    text.push_str("\n               TO");
     push_reference(
         text,
         draw,
@@ -108,62 +101,58 @@ fn push_words(
         style.output,
         &[entry.times],
         counter,
-    )
+    );
 }
 
 /// Writes the loop that moves the elements of an entry to those of the one of its name.
 fn push_loop(
-    text: &mut String,
+    text: &mut TextBuffer,
     draw: &mut Draw,
     style: &Style,
     entry: &Entry<'_>,
     turns: Turns,
-) -> Result<(), AllocError> {
-    text.push_str("           PERFORM VARYING I FROM ")?;
-    push_number(text, turns.first)?;
-    text.push_str(" BY ")?;
-    push_number(text, turns.step)?;
-    text.push_str(" UNTIL I > ")?;
-    push_number(text, turns.bound)?;
-    text.push('\n')?;
+) {
+    text.push_str("           PERFORM VARYING I FROM ");
+    push_number(text, turns.first);
+    text.push_str(" BY ");
+    push_number(text, turns.step);
+    text.push_str(" UNTIL I > ");
+    push_number(text, turns.bound);
+    text.push('\n');
     let mut element = *entry;
     element.tables = with_table(entry.tables, entry.depth, Times::Once);
     element.times = Times::Once;
-    push_words(text, draw, style, &element, "I")?;
-    text.push_str("\n           END-PERFORM.\n")
+    push_words(text, draw, style, &element, "I");
+    text.push_str("\n           END-PERFORM.\n");
 }
 
 /// Writes the statement that moves an entry to the one of its name, or the loop that moves its elements.
-fn push_move(
-    text: &mut String,
-    draw: &mut Draw,
-    style: &Style,
-    entry: &Entry<'_>,
-) -> Result<(), AllocError> {
+fn push_move(text: &mut TextBuffer, draw: &mut Draw, style: &Style, entry: &Entry<'_>) {
     if let Some(turns) = draw_turns(draw, entry.times) {
-        return push_loop(text, draw, style, entry, turns);
+        push_loop(text, draw, style, entry, turns);
+        return;
     }
-    push_words(text, draw, style, entry, "")?;
-    text.push_str(".\n")
+    push_words(text, draw, style, entry, "");
+    text.push_str(".\n");
 }
 
 /// Writes a statement for each entry, the counts first, and perhaps one of corresponding entries.
 pub(crate) fn push_statements(
-    text: &mut String,
+    text: &mut TextBuffer,
     draw: &mut Draw,
     style: &Style,
     counts: &[Entry<'_>],
     others: &[Entry<'_>],
-) -> Result<(), AllocError> {
+) {
     for entry in counts.iter().chain(others.iter()) {
-        push_move(text, draw, style, entry)?;
+        push_move(text, draw, style, entry);
     }
     if draw.below(3) != 0 {
-        return Ok(());
+        return;
     }
-    text.push_str("           MOVE CORRESPONDING ")?;
-    text.push_str(style.input.name)?;
-    text.push_str(" TO ")?;
-    text.push_str(style.output.name)?;
-    text.push_str(".\n")
+    text.push_str("           MOVE CORRESPONDING ");
+    text.push_str(style.input.name);
+    text.push_str(" TO ");
+    text.push_str(style.output.name);
+    text.push_str(".\n");
 }

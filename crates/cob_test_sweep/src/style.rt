@@ -2,8 +2,7 @@
 
 use crate::draw::Draw;
 use crate::entries::{Times, Varying};
-use std::alloc::AllocError;
-use std::fmt::Write;
+use cob_test_rows::TextBuffer;
 
 /// What stands before the number of an entry in its name. The last one makes names of 30 letters.
 const PREFIXES: [&str; 3] = ["E", "ITEM-", "THE-NAME-OF-AN-ENTRY-NUMBER"];
@@ -38,19 +37,19 @@ fn record_in_style(draw: &mut Draw, named: Record, implied: &'static str) -> Rec
 }
 
 /// Writes a number.
-pub(crate) fn push_number(text: &mut String, number: u64) -> Result<(), AllocError> {
-    write!(text, "{number}")
+pub(crate) fn push_number(text: &mut TextBuffer, number: u64) {
+    write!(text, "{number}");
 }
 
 /// Writes a number below a thousand with at least two digits, or at least three.
-fn push_digits(text: &mut String, number: u64, digits: u64) -> Result<(), AllocError> {
+fn push_digits(text: &mut TextBuffer, number: u64, digits: u64) {
     if digits == 3 && number < 100 {
-        text.push('0')?;
+        text.push('0');
     }
     if number < 10 {
-        text.push('0')?;
+        text.push('0');
     }
-    push_number(text, number)
+    push_number(text, number);
 }
 
 impl Style {
@@ -77,22 +76,17 @@ impl Style {
     }
 
     /// Writes the name of the entry of this number.
-    pub(crate) fn push_name(&self, text: &mut String, number: u64) -> Result<(), AllocError> {
-        text.push_str(self.prefix)?;
-        push_digits(text, number, 3)
+    pub(crate) fn push_name(&self, text: &mut TextBuffer, number: u64) {
+        text.push_str(self.prefix);
+        push_digits(text, number, 3);
     }
 
     /// Begins an entry: its level, and its name or FILLER.
-    pub(crate) fn begin_entry(
-        &self,
-        text: &mut String,
-        depth: u64,
-        number: Option<u64>,
-    ) -> Result<(), AllocError> {
+    pub(crate) fn begin_entry(&self, text: &mut TextBuffer, depth: u64, number: Option<u64>) {
         let level = depth.saturating_mul(self.step).saturating_add(1);
-        text.push_str("       ")?;
-        push_digits(text, level, 2)?;
-        text.push_str("  ")?;
+        text.push_str("       ");
+        push_digits(text, level, 2);
+        text.push_str("  ");
         match number {
             Some(number) => self.push_name(text, number),
             None => text.push_str("FILLER"),
@@ -100,25 +94,25 @@ impl Style {
     }
 
     /// Writes how often a table occurs that varies.
-    fn push_varying(&self, text: &mut String, table: Varying) -> Result<(), AllocError> {
-        text.push_str("\n           OCCURS ")?;
-        push_number(text, table.least)?;
-        text.push_str(" TO ")?;
-        push_number(text, table.most)?;
-        text.push_str(" DEPENDING ON\n           ")?;
-        self.push_name(text, table.count)
+    fn push_varying(&self, text: &mut TextBuffer, table: Varying) {
+        text.push_str("\n           OCCURS ");
+        push_number(text, table.least);
+        text.push_str(" TO ");
+        push_number(text, table.most);
+        text.push_str(" DEPENDING ON\n           ");
+        self.push_name(text, table.count);
     }
 
     /// Ends an entry: how often it occurs, and the period.
-    pub(crate) fn end_entry(&self, text: &mut String, times: Times) -> Result<(), AllocError> {
+    pub(crate) fn end_entry(&self, text: &mut TextBuffer, times: Times) {
         match times {
             Times::Once => {}
             Times::Fixed(most) => {
-                text.push_str("\n           OCCURS ")?;
-                push_number(text, most)?;
+                text.push_str("\n           OCCURS ");
+                push_number(text, most);
             }
-            Times::Varies(table) => self.push_varying(text, table)?,
+            Times::Varies(table) => self.push_varying(text, table),
         }
-        text.push_str(".\n")
+        text.push_str(".\n");
     }
 }
