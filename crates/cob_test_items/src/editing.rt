@@ -73,25 +73,61 @@ fn push_back(out: &mut TextBuffer, read: &Option<Number>, kept: &Number) {
         Some(read) if is_same(read, kept) => out.push_str(" and back"),
         Some(read) => {
             out.push_str(" and back as ");
-            push_number(out, read)
+            push_number(out, read);
         }
         None => out.push_str(" and not back"),
     }
 }
 
+/// Writes whether the number that a picture keeps of one is read back from its text.
+fn push_read_back(
+    picture: &Picture,
+    blank: bool,
+    number: &Number,
+    bytes: &[u8],
+    out: &mut TextBuffer,
+) -> Result<(), RowFault> {
+    let read = number_shown(picture, blank, bytes)?;
+    push_back(out, &read, &kept(picture, number));
+    Ok(())
+}
+
 /// Writes the text that a picture gives a number, and whether the number that the picture keeps of it is read back from there.
+fn push_text_of(
+    alloc: Global,
+    picture: &Picture,
+    blank: bool,
+    number: &Number,
+    out: &mut TextBuffer,
+) -> Result<(), RowFault> {
+    let bytes = edited(alloc, picture, blank, number)?;
+    push_characters(out, bytes.as_slice());
+    push_read_back(picture, blank, number, bytes.as_slice(), out)
+}
+
+/// The same for the picture and the number of a row.
 pub(crate) fn push_edited(
     alloc: Global,
     row: &Row,
     blank: bool,
     out: &mut TextBuffer,
 ) -> Result<(), RowFault> {
-    let picture = picture_of(alloc, row)?;
     let number = number_of_text(alloc, row, 1)?;
-    let bytes = edited(alloc, &picture, blank, &number)?;
-    push_characters(out, bytes.as_slice());
-    let read = number_shown(&picture, blank, bytes.as_slice())?;
-    push_back(out, &read, &kept(&picture, &number));
+    let picture = picture_of(alloc, row)?;
+    push_text_of(alloc, &picture, blank, &number, out)
+}
+
+/// Writes the number that a text shows by a picture, if it shows one.
+fn push_shown(
+    picture: &Picture,
+    blank: bool,
+    bytes: &[u8],
+    out: &mut TextBuffer,
+) -> Result<(), RowFault> {
+    match number_shown(picture, blank, bytes)? {
+        Some(number) => push_number(out, &number),
+        None => out.push_str("no number"),
+    }
     Ok(())
 }
 
@@ -102,30 +138,30 @@ pub(crate) fn push_read(
     blank: bool,
     out: &mut TextBuffer,
 ) -> Result<(), RowFault> {
-    let picture = picture_of(alloc, row)?;
     let bytes = bytes_of_text(alloc, row)?;
-    match number_shown(&picture, blank, bytes.as_slice())? {
-        Some(number) => push_number(out, &number),
-        None => out.push_str("no number"),
-    }
-    Ok(())
+    let picture = picture_of(alloc, row)?;
+    push_shown(&picture, blank, bytes.as_slice(), out)
 }
 
-/// The text that a picture gives characters.
-fn spelled(alloc: Global, picture: &Picture, sent: &[u8]) -> Result<Vec<u8>, RowFault> {
+/// Writes the text that a picture gives characters.
+fn push_text_by(
+    alloc: Global,
+    picture: &Picture,
+    sent: &[u8],
+    out: &mut TextBuffer,
+) -> Result<(), RowFault> {
     let Category::AlphanumericEdited = picture.category() else {
         return Err(RowFault::BadRow);
     };
     let mut bytes = vec![in alloc; 0xFFu8; usize::from(picture.size())]?;
     edit_text(picture, sent, &mut bytes);
-    Ok(bytes)
-}
-
-/// Writes the text that a picture gives characters.
-pub(crate) fn push_spelled(alloc: Global, row: &Row, out: &mut TextBuffer) -> Result<(), RowFault> {
-    let picture = picture_of(alloc, row)?;
-    let sent = bytes_of_text(alloc, row)?;
-    let bytes = spelled(alloc, &picture, sent.as_slice())?;
     push_characters(out, bytes.as_slice());
     Ok(())
+}
+
+/// Writes the text that the picture of a row gives its characters.
+pub(crate) fn push_spelled(alloc: Global, row: &Row, out: &mut TextBuffer) -> Result<(), RowFault> {
+    let sent = bytes_of_text(alloc, row)?;
+    let picture = picture_of(alloc, row)?;
+    push_text_by(alloc, &picture, sent.as_slice(), out)
 }

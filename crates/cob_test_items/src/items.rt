@@ -32,10 +32,12 @@ fn sign_of(written: &str) -> Result<Option<Sign>, RowFault> {
 
 /// The item of the first three fields: its picture, its USAGE and its SIGN.
 fn item_of(alloc: Global, row: &Row) -> Result<Item, RowFault> {
+    let usage = usage_of(row.field(1)?)?;
+    let sign = sign_of(row.field(2)?)?;
     Ok(Item {
         picture: picture_of(alloc, row)?,
-        usage: usage_of(row.field(1)?)?,
-        sign: sign_of(row.field(2)?)?,
+        usage,
+        sign,
         justified: false,
         blank: false,
     })
@@ -49,28 +51,47 @@ fn number_in(item: &Item, bytes: &[u8]) -> Result<Option<Number>, RowFault> {
     Ok(read_number(item, bytes))
 }
 
-/// The bytes that are stored in an item for a number.
-fn stored(alloc: Global, item: &Item, number: &Number) -> Result<Vec<u8>, RowFault> {
+/// Writes the bytes that are stored in an item for a number.
+fn push_stored(
+    alloc: Global,
+    item: &Item,
+    number: &Number,
+    out: &mut TextBuffer,
+) -> Result<(), RowFault> {
     if !is_number_item(item) {
         return Err(RowFault::BadRow);
     }
+    let mut bytes = vec![in alloc; 0x55u8; usize::from(item.size())]?;
     let picture = &item.picture;
     let aligned = number.align(picture.digits(), picture.scale(), picture.signed());
-    let mut bytes = vec![in alloc; 0x55u8; usize::from(item.size())]?;
     store_number(item, &aligned, &mut bytes);
-    Ok(bytes)
+    push_digits(out, bytes.as_slice());
+    Ok(())
+}
+
+/// Writes the number that bytes of an item represent, and the bytes that are stored for it.
+fn push_both(
+    alloc: Global,
+    item: &Item,
+    bytes: &[u8],
+    out: &mut TextBuffer,
+) -> Result<(), RowFault> {
+    match number_in(item, bytes)? {
+        Some(number) => {
+            push_number(out, &number);
+            out.push_str(", stored as ");
+            push_stored(alloc, item, &number, out)
+        }
+        None => {
+            out.push_str("no number");
+            Ok(())
+        }
+    }
 }
 
 /// The number that the bytes of an item represent, and the bytes that are stored for it.
 pub(crate) fn push_item(alloc: Global, row: &Row, out: &mut TextBuffer) -> Result<(), RowFault> {
-    let item = item_of(alloc, row)?;
     let bytes = row.bytes(alloc, 3)?;
-    let Some(number) = number_in(&item, bytes.as_slice())? else {
-        out.push_str("no number");
-        return Ok(());
-    };
-    push_number(out, &number);
-    out.push_str(", stored as ");
-    push_digits(out, stored(alloc, &item, &number)?.as_slice());
-    Ok(())
+    let item = item_of(alloc, row)?;
+    push_both(alloc, &item, bytes.as_slice(), out)
 }

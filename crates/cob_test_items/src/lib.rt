@@ -17,6 +17,30 @@ use std::alloc::Global;
 /// The tables on items and what they are made of.
 pub struct ItemRows;
 
+/// Writes what comes of a row of the tables on the storage of numbers, and on edited texts.
+fn answer_stored(
+    alloc: Global,
+    table: &str,
+    row: &Row,
+    out: &mut TextBuffer,
+) -> Result<(), RowFault> {
+    match table {
+        "shapes" => storage::push_shape(alloc, row, out),
+        "read" => storage::push_read(alloc, row, out),
+        "stored" => storage::push_stored(alloc, row, out),
+        "read_whole" => storage::push_whole(alloc, row, out),
+        "read_any_zones" => storage::push_any_zones(alloc, row, out),
+        "read_digits" => storage::push_digits_read(alloc, row, out),
+        "items" => items::push_item(alloc, row, out),
+        "edited" => editing::push_edited(alloc, row, false, out),
+        "edited_blank" => editing::push_edited(alloc, row, true, out),
+        "deedited" => editing::push_read(alloc, row, false, out),
+        "deedited_blank" => editing::push_read(alloc, row, true, out),
+        "edited_characters" => editing::push_spelled(alloc, row, out),
+        _ => Err(RowFault::BadRow),
+    }
+}
+
 impl Family for ItemRows {
     fn answer(alloc: Global, table: &str, row: &Row, out: &mut TextBuffer) -> Result<(), RowFault> {
         match table {
@@ -31,19 +55,7 @@ impl Family for ItemRows {
             "characters" => characters::push_byte(alloc, row, out),
             "bytes" => characters::push_character(alloc, row, out),
             "texts" => characters::push_coded(alloc, row, out),
-            "shapes" => storage::push_shape(alloc, row, out),
-            "read" => storage::push_read(alloc, row, out),
-            "stored" => storage::push_stored(alloc, row, out),
-            "read_whole" => storage::push_whole(alloc, row, out),
-            "read_any_zones" => storage::push_any_zones(alloc, row, out),
-            "read_digits" => storage::push_digits_read(alloc, row, out),
-            "items" => items::push_item(alloc, row, out),
-            "edited" => editing::push_edited(alloc, row, false, out),
-            "edited_blank" => editing::push_edited(alloc, row, true, out),
-            "deedited" => editing::push_read(alloc, row, false, out),
-            "deedited_blank" => editing::push_read(alloc, row, true, out),
-            "edited_characters" => editing::push_spelled(alloc, row, out),
-            _ => Err(RowFault::BadRow),
+            _ => answer_stored(alloc, table, row, out),
         }
     }
 }

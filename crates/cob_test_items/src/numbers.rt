@@ -33,12 +33,11 @@ fn is_first(row: &Row, place: usize, first: &str, second: &str) -> Result<bool, 
 /// The number of the first three fields: its sign, its digits and its scale.
 fn number_of(row: &Row) -> Result<Number, RowFault> {
     let negative = is_first(row, 0, "minus", "plus")?;
-    let digits = digits_at(row, 1)?;
     let scale = row.number(2)?;
     if scale < MIN_SCALE || scale > MAX_SCALE {
         return Err(RowFault::BadRow);
     }
-    Ok(Number::new(negative, digits, scale))
+    Ok(Number::new(negative, digits_at(row, 1)?, scale))
 }
 
 /// Writes a number as text, over what stood where it is written.
@@ -89,21 +88,28 @@ pub(crate) fn push_printed(row: &Row, out: &mut TextBuffer) -> Result<(), RowFau
     Ok(())
 }
 
-/// What a receiver of so many digits, of such a scale, keeps of a number.
-fn aligned(number: &Number, digits: u8, scale: i8, signed: bool) -> Result<Number, RowFault> {
+/// Writes the parts of what a receiver of so many digits, of such a scale, keeps of a number.
+fn push_kept(
+    number: &Number,
+    digits: u8,
+    scale: i8,
+    signed: bool,
+    out: &mut TextBuffer,
+) -> Result<(), RowFault> {
     if usize::from(digits) > MAX_DIGITS || scale < MIN_SCALE || scale > MAX_SCALE {
         return Err(RowFault::BadRow);
     }
-    Ok(number.align(digits, scale, signed))
+    push_parts(out, &number.align(digits, scale, signed));
+    Ok(())
 }
 
 /// The parts of a number that is aligned to a receiver.
 pub(crate) fn push_aligned(row: &Row, out: &mut TextBuffer) -> Result<(), RowFault> {
-    let number = number_of(row)?;
     let signed = is_first(row, 5, "signed", "unsigned")?;
-    let aligned = aligned(&number, row.number(3)?, row.number(4)?, signed)?;
-    push_parts(out, &aligned);
-    Ok(())
+    let digits = row.number(3)?;
+    let scale = row.number(4)?;
+    let number = number_of(row)?;
+    push_kept(&number, digits, scale, signed, out)
 }
 
 /// The parts of a copy of a number.

@@ -49,10 +49,16 @@ fn shape_by(picture: &Picture, leading: bool) -> Result<Shape, RowFault> {
     Ok(Shape::of(picture, leading))
 }
 
-/// The shape of a picture.
-pub(crate) fn push_shape(alloc: Global, row: &Row, out: &mut TextBuffer) -> Result<(), RowFault> {
+/// The shape of a row's picture.
+fn quoted_shape(alloc: Global, row: &Row) -> Result<Shape, RowFault> {
+    let leading = leads(row.field(1)?)?;
     let picture = quoted_picture(alloc, row)?;
-    let shape = shape_by(&picture, leads(row.field(1)?)?)?;
+    shape_by(&picture, leading)
+}
+
+/// Writes the shape of a picture.
+pub(crate) fn push_shape(alloc: Global, row: &Row, out: &mut TextBuffer) -> Result<(), RowFault> {
+    let shape = quoted_shape(alloc, row)?;
     let sign = if shape.signed { "signed" } else { "unsigned" };
     let place = if shape.leading { "leading" } else { "trailing" };
     write!(out, "digits {}, scale {}, ", shape.digits, shape.scale);
@@ -103,9 +109,10 @@ fn push_number_in(
 
 /// The number that bytes represent.
 pub(crate) fn push_read(alloc: Global, row: &Row, out: &mut TextBuffer) -> Result<(), RowFault> {
+    let kind = row.field(0)?;
     let shape = shape_of(row)?;
     let bytes = row.bytes(alloc, 4)?;
-    push_number_in(row.field(0)?, &shape, bytes.as_slice(), out)
+    push_number_in(kind, &shape, bytes.as_slice(), out)
 }
 
 /// Stores a number and reads it back: it is the number that was stored, by the laws of storage alone.
@@ -133,8 +140,8 @@ fn push_form<S: Storage>(
 ) -> Result<(), RowFault>
     requires { S.takes shape.now }
 {
-    let aligned = number.align(shape.digits, shape.scale, shape.signed);
     let mut bytes = vec![in alloc; 0x55u8; usize::from(S::length(shape))]?;
+    let aligned = number.align(shape.digits, shape.scale, shape.signed);
     let read = stored_and_read::<S>(shape, &aligned, &mut bytes);
     push_digits(out, bytes.as_slice());
     out.push_str(", read back as ");
@@ -163,29 +170,29 @@ fn push_form_of(
 
 /// The bytes that are stored for a number.
 pub(crate) fn push_stored(alloc: Global, row: &Row, out: &mut TextBuffer) -> Result<(), RowFault> {
+    let kind = row.field(0)?;
     let shape = shape_of(row)?;
     let number = number_of_text(alloc, row, 4)?;
-    push_form_of(alloc, row.field(0)?, &shape, &number, out)
+    push_form_of(alloc, kind, &shape, &number, out)
 }
 
-/// The number of all bytes of a binary item.
-fn whole_number(shape: &Shape, bytes: &[u8]) -> Result<Number, RowFault> {
+/// Writes the number of all bytes of a binary item.
+fn push_whole_number(shape: &Shape, bytes: &[u8], out: &mut TextBuffer) -> Result<(), RowFault> {
     if shape.digits > MAX_BINARY_DIGITS || bytes.len() != usize::from(Binary::length(shape)) {
         return Err(RowFault::BadRow);
     }
-    Ok(Binary::read_whole(shape, bytes))
+    push_number(out, &Binary::read_whole(shape, bytes));
+    Ok(())
 }
 
 /// The number of all bytes of a row's binary item.
 pub(crate) fn push_whole(alloc: Global, row: &Row, out: &mut TextBuffer) -> Result<(), RowFault> {
-    let shape = shape_of(row)?;
-    let bytes = row.bytes(alloc, 4)?;
     if row.field(0)? != "binary" {
         return Err(RowFault::BadRow);
     }
-    let number = whole_number(&shape, bytes.as_slice())?;
-    push_number(out, &number);
-    Ok(())
+    let shape = shape_of(row)?;
+    let bytes = row.bytes(alloc, 4)?;
+    push_whole_number(&shape, bytes.as_slice(), out)
 }
 
 /// The number of an item's bytes by any zones.
@@ -207,10 +214,10 @@ pub(crate) fn push_any_zones(
     row: &Row,
     out: &mut TextBuffer,
 ) -> Result<(), RowFault> {
+    let kind = row.field(0)?;
     let shape = shape_of(row)?;
     let bytes = row.bytes(alloc, 4)?;
-    let number = any_zones_number(row.field(0)?, &shape, bytes.as_slice())?;
-    push_found(out, &number);
+    push_found(out, &any_zones_number(kind, &shape, bytes.as_slice())?);
     Ok(())
 }
 
@@ -223,12 +230,16 @@ fn push_quoted(out: &mut TextBuffer, digits: &Digits) {
     out.push('"');
 }
 
-/// The digits that bytes are.
-fn digits_in(bytes: &[u8]) -> Result<Option<Digits>, RowFault> {
+/// Writes the digits that bytes are, if they are digits alone.
+fn push_digits_in(bytes: &[u8], out: &mut TextBuffer) -> Result<(), RowFault> {
     if bytes.len() > MAX_DIGITS {
         return Err(RowFault::BadRow);
     }
-    Ok(read_digits(bytes))
+    match read_digits(bytes) {
+        Some(digits) => push_quoted(out, &digits),
+        None => out.push_str("no digits"),
+    }
+    Ok(())
 }
 
 /// The digits of bytes that are digits alone.
@@ -240,9 +251,5 @@ pub(crate) fn push_digits_read(
     let Some(bytes) = bytes_of(alloc, row.quoted(0)?)? else {
         return Err(RowFault::BadRow);
     };
-    match digits_in(bytes.as_slice())? {
-        Some(digits) => push_quoted(out, &digits),
-        None => out.push_str("no digits"),
-    }
-    Ok(())
+    push_digits_in(bytes.as_slice(), out)
 }
