@@ -1,7 +1,6 @@
 //! Whole copybooks.
 
 use crate::nodes::{push_each, push_names};
-use crate::refusal::Refusal;
 use crate::texts::many_of;
 use cob_copybook::{Book, Role};
 use cob_test_rows::{Row, RowFault, TextBuffer};
@@ -40,21 +39,20 @@ fn text_of(alloc: Global, question: &str, row: &Row) -> Result<Vec<u8>, RowFault
     }
 }
 
-/// The copybook of a text.
-fn book_of(alloc: Global, role: Role, text: &[u8]) -> Result<Book, Refusal> {
+/// Writes what is asked for of the copybook of a text, or the rule that it breaks.
+fn push_read(alloc: Global, role: Role, shown: Shown, text: &[u8], out: &mut TextBuffer) {
     match Book::read(alloc, role, text) {
-        Ok(book) => Ok(book),
-        Err(fault) => Err(Refusal::Text(fault)),
+        Ok(book) => push_book(out, shown, &book),
+        Err(fault) => write!(out, "{fault}"),
     }
 }
 
 /// Writes the answer to a row's question about a copybook.
-pub(crate) fn answer(alloc: Global, row: &Row, out: &mut TextBuffer) -> Result<(), Refusal> {
+pub(crate) fn answer(alloc: Global, row: &Row, out: &mut TextBuffer) -> Result<(), RowFault> {
     let question = row.field(0)?;
     let (role, shown) = asked_of(question)?;
     let text = text_of(alloc, question, row)?;
-    let book = book_of(alloc, role, text.as_slice())?;
-    push_book(out, shown, &book);
+    push_read(alloc, role, shown, text.as_slice(), out);
     Ok(())
 }
 

@@ -46,8 +46,7 @@ pub(crate) fn answer(alloc: Global, row: &Row, out: &mut TextBuffer) -> Result<(
         return Ok(());
     }
     let question = question_of(name)?;
-    let text = row.lines(alloc, 1)?;
-    let words = words_of(alloc, text.as_slice())?;
+    let words = words_of(alloc, row, out)?;
     push_answer(out, question, words.as_slice());
     Ok(())
 }

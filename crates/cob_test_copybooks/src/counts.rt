@@ -3,6 +3,7 @@
 use crate::refusal::Refusal;
 use crate::trees::tree_of;
 use cob_copybook_names::counts;
+use cob_copybook_tree::Branch;
 use cob_test_rows::{Row, RowFault, TextBuffer};
 use std::alloc::Global;
 
@@ -17,12 +18,11 @@ fn push_counts(out: &mut TextBuffer, counts: &[Option<usize>]) {
     }
 }
 
-/// The number of each entry's count.
-fn counts_of(alloc: Global, row: &Row) -> Result<Vec<Option<usize>>, Refusal> {
-    let tree = tree_of(alloc, row)?;
-    match counts(alloc, &tree) {
-        Ok(counts) => Ok(counts),
-        Err(fault) => Err(Refusal::Text(fault)),
+/// Writes the number of the count of each entry of a tree, or the rule that the entries break.
+fn push_counts_of(alloc: Global, tree: &Branch, out: &mut TextBuffer) {
+    match counts(alloc, tree) {
+        Ok(counts) => push_counts(out, counts.as_slice()),
+        Err(fault) => write!(out, "{fault}"),
     }
 }
 
@@ -31,6 +31,7 @@ pub(crate) fn answer(alloc: Global, row: &Row, out: &mut TextBuffer) -> Result<(
     if row.field(0)? != "counts" {
         return Err(Refusal::Row(RowFault::BadRow));
     }
-    push_counts(out, counts_of(alloc, row)?.as_slice());
+    let tree = tree_of(alloc, row, out)?;
+    push_counts_of(alloc, &tree, out);
     Ok(())
 }

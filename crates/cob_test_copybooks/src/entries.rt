@@ -10,37 +10,49 @@ use cob_picture::Picture;
 use cob_test_rows::{Row, RowFault, TextBuffer};
 use std::alloc::Global;
 
-/// Writes the answer to a row's question about a text.
-pub(crate) fn answer(alloc: Global, row: &Row, out: &mut TextBuffer) -> Result<(), Refusal> {
-    match row.field(0)? {
-        "entries" => answer_to(alloc, row.lines(alloc, 1)?.as_slice(), out),
-        "text" => answer_to(alloc, row.text(alloc, 1)?.as_slice(), out),
-        "many" => answer_to_many(alloc, many_of(alloc, row)?.as_slice(), out),
-        "name" => answer_to_name(row.field(1)?, out),
-        _ => Err(Refusal::Row(RowFault::BadRow)),
+/// The text of a row, as its question says.
+fn text_of(alloc: Global, question: &str, row: &Row) -> Result<Vec<u8>, RowFault> {
+    match question {
+        "entries" => row.lines(alloc, 1),
+        "text" => row.text(alloc, 1),
+        "many" => many_of(alloc, row),
+        _ => Err(RowFault::BadRow),
     }
 }
 
-/// Writes the entries of a text.
-fn answer_to(alloc: Global, text: &[u8], out: &mut TextBuffer) -> Result<(), Refusal> {
-    push_entries(out, entries_of(alloc, text)?.as_slice());
-    Ok(())
+/// Writes the answer to a row's question about a text.
+pub(crate) fn answer(alloc: Global, row: &Row, out: &mut TextBuffer) -> Result<(), Refusal> {
+    let question = row.field(0)?;
+    if question == "name" {
+        push_own_name(out, row.field(1)?);
+        return Ok(());
+    }
+    let text = text_of(alloc, question, row)?;
+    push_text(alloc, text.as_slice(), question == "many", out)
 }
 
-/// Writes how many entries a text has.
-fn answer_to_many(alloc: Global, text: &[u8], out: &mut TextBuffer) -> Result<(), Refusal> {
-    let list = entries_of(alloc, text)?;
-    write!(out, "{} entries", list.len());
+/// Writes the entries of a text, or how many it has.
+fn push_text(
+    alloc: Global,
+    text: &[u8],
+    is_counted: bool,
+    out: &mut TextBuffer,
+) -> Result<(), Refusal> {
+    let list = entries_of(alloc, text, out)?;
+    if is_counted {
+        write!(out, "{} entries", list.len());
+    } else {
+        push_entries(out, list.as_slice());
+    }
     Ok(())
 }
 
 /// Writes the name that a text is, or that it is none.
-fn answer_to_name(text: &str, out: &mut TextBuffer) -> Result<(), Refusal> {
+fn push_own_name(out: &mut TextBuffer, text: &str) {
     match name_of_text(text.as_bytes()) {
         Some(name) => write!(out, "{name}"),
         None => out.push_str("none"),
     }
-    Ok(())
 }
 
 /// Writes entries.

@@ -12,12 +12,16 @@ use cob_test_rows::{Row, RowFault, TextBuffer};
 use std::alloc::Global;
 use std::slice;
 
-/// Judges the lengths of a record.
-fn judge(root: &Node) -> Result<(), Refusal> {
+/// Writes whether the lengths of a record keep the rules, or the one that they break.
+fn push_judged(root: &Node, out: &mut TextBuffer) -> Result<(), RowFault> {
     if !are_possible(slice::from_ref(root)) {
-        return Err(Refusal::Row(RowFault::BadRow));
+        return Err(RowFault::BadRow);
     }
-    Ok(judge_lengths(root)?)
+    match judge_lengths(root) {
+        Ok(()) => out.push_str("yes"),
+        Err(fault) => write!(out, "{fault}"),
+    }
+    Ok(())
 }
 
 /// Writes the answer to a row's question about entries.
@@ -25,9 +29,8 @@ pub(crate) fn answer(alloc: Global, row: &Row, out: &mut TextBuffer) -> Result<(
     if row.field(0)? != "fit" {
         return Err(Refusal::Row(RowFault::BadRow));
     }
-    judge(&record_of(alloc, row)?)?;
-    out.push_str("yes");
-    Ok(())
+    let root = record_of(alloc, row, out)?;
+    Ok(push_judged(&root, out)?)
 }
 
 /// Whether the entries occur at least once, and the items have none beneath them.

@@ -29,7 +29,7 @@ pub struct CopybookRows;
 /// Writes what comes of a row of a table.
 ///
 /// # Errors
-/// That there is no answer, or a rule that the row's text breaks.
+/// That there is no answer, or that it tells a rule that the row's text breaks.
 fn answer(alloc: Global, table: &str, row: &Row, out: &mut TextBuffer) -> Result<(), Refusal> {
     match table {
         "lines"
@@ -47,8 +47,8 @@ fn answer(alloc: Global, table: &str, row: &Row, out: &mut TextBuffer) -> Result
         "rules" => rules::answer(alloc, row, out),
         "counts" => counts::answer(alloc, row, out),
         "lengths" => lengths::answer(alloc, row, out),
-        "names" => names::answer(alloc, row, out),
-        "accepted" | "refused" | "books" => books::answer(alloc, row, out),
+        "names" => Ok(names::answer(alloc, row, out)?),
+        "accepted" | "refused" | "books" => Ok(books::answer(alloc, row, out)?),
         _ => Err(Refusal::Row(RowFault::BadRow)),
     }
 }
@@ -56,12 +56,8 @@ fn answer(alloc: Global, table: &str, row: &Row, out: &mut TextBuffer) -> Result
 impl Family for CopybookRows {
     fn answer(alloc: Global, table: &str, row: &Row, out: &mut TextBuffer) -> Result<(), RowFault> {
         match answer(alloc, table, row, out) {
-            Ok(()) => Ok(()),
+            Ok(()) | Err(Refusal::Told) => Ok(()),
             Err(Refusal::Row(fault)) => Err(fault),
-            Err(Refusal::Text(fault)) => {
-                write!(out, "{fault}");
-                Ok(())
-            }
         }
     }
 }

@@ -1,15 +1,16 @@
 //! Why a row's question isn't answered as it is asked.
 
 use cob_copybook_entry::BookFault;
-use cob_test_rows::RowFault;
+use cob_test_rows::{RowFault, TextBuffer};
 use std::alloc::AllocError;
 
 /// Why a row's question isn't answered as it is asked.
+#[derive(Clone, Copy)]
 pub(crate) enum Refusal {
     /// The row has no answer.
     Row(RowFault),
-    /// Its text breaks a rule, which is then the answer.
-    Text(BookFault),
+    /// Its text breaks a rule, which the answer tells.
+    Told,
 }
 
 impl From<RowFault> for Refusal {
@@ -24,8 +25,8 @@ impl From<AllocError> for Refusal {
     }
 }
 
-impl From<BookFault> for Refusal {
-    fn from(fault: BookFault) -> Refusal {
-        Refusal::Text(fault)
-    }
+/// Tells the rule that a row's text breaks.
+pub(crate) fn told(out: &mut TextBuffer, fault: BookFault) -> Refusal {
+    write!(out, "{fault}");
+    Refusal::Told
 }

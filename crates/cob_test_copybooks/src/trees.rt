@@ -17,8 +17,9 @@ use std::alloc::Global;
 
 /// Writes the answer to a row's question about entries.
 pub(crate) fn answer(alloc: Global, row: &Row, out: &mut TextBuffer) -> Result<(), Refusal> {
-    let root = record_of(alloc, row)?;
-    Ok(push_record(out, row.field(0)?, &root)?)
+    let question = row.field(0)?;
+    let root = record_of(alloc, row, out)?;
+    Ok(push_record(out, question, &root)?)
 }
 
 /// Writes what a question asks of a record.
@@ -80,19 +81,19 @@ fn planted(alloc: Global, entries: Vec<Entry>) -> Result<Branch, Refusal>
 }
 
 /// The tree of a row's entries.
-pub(crate) fn tree_of(alloc: Global, row: &Row) -> Result<Branch, Refusal>
+pub(crate) fn tree_of(alloc: Global, row: &Row, out: &mut TextBuffer) -> Result<Branch, Refusal>
     ensures few { IfOk result (λ b. entries_in (forest_of (b ∷ [])) ≤ 65535) }
 {
     let text = row.lines(alloc, 1)?;
-    let entries = entries_of(alloc, text.as_slice())?;
+    let entries = entries_of(alloc, text.as_slice(), out)?;
     planted(alloc, entries)
 }
 
 /// The record of a row's entries, with what they inherit. A third field has the number of each entry's count, and a hyphen for one
 /// without.
-pub(crate) fn record_of(alloc: Global, row: &Row) -> Result<Node, Refusal> {
+pub(crate) fn record_of(alloc: Global, row: &Row, out: &mut TextBuffer) -> Result<Node, Refusal> {
     let counts = numbers_of(alloc, row.field(2).unwrap_or(""))?;
-    let tree = tree_of(alloc, row)?;
+    let tree = tree_of(alloc, row, out)?;
     Ok(resolve(alloc, &tree, counts.as_slice())?)
 }
 

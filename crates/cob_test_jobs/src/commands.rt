@@ -155,15 +155,20 @@ fn push_comments(text: &mut Vec<u8>, size: usize) -> Result<(), AllocError> {
     Ok(())
 }
 
+/// Adds lines of comment and the last line, up to so many bytes in all.
+fn push_last(text: &mut Vec<u8>, size: usize, last: &[u8]) -> Result<(), AllocError> {
+    text.push(b'\n')?;
+    let comments = size.saturating_sub(text.len() + last.len());
+    push_comments(text, comments)?;
+    text.extend_from_slice(last)
+}
+
 /// A text of so many bytes: the entries or statements that are parted by bars, each on a line, and lines of comment before the last.
 fn long_text(alloc: Global, size: usize, entries: &str) -> Result<Vec<u8>, AllocError> {
     let (front, last) = entries.rsplit_once('|').unwrap_or(("", entries));
-    let mut text = lines_of(alloc, front)?;
-    text.push(b'\n')?;
     let last = lines_of(alloc, last)?;
-    let comments = size.saturating_sub(text.len() + last.len());
-    push_comments(&mut text, comments)?;
-    text.extend_from_slice(&last)?;
+    let mut text = lines_of(alloc, front)?;
+    push_last(&mut text, size, last.as_slice())?;
     Ok(text)
 }
 

@@ -29,30 +29,50 @@ fn read(alloc: Global, row: &Row, out: &mut TextBuffer) -> Result<(), RowFault> 
     Ok(())
 }
 
-/// The record after bytes are written to a place.
-fn write(alloc: Global, row: &Row, out: &mut TextBuffer) -> Result<(), RowFault> {
-    let mut record = row.bytes(alloc, 1)?;
+/// Writes a record after bytes are written to the place of a row.
+fn push_written(
+    record: &mut [u8],
+    bytes: &[u8],
+    row: &Row,
+    out: &mut TextBuffer,
+) -> Result<(), RowFault> {
     let place = place_of(row, record.len())?;
-    let bytes = row.bytes(alloc, 4)?;
     if bytes.len() != place.length as usize {
         return Err(RowFault::BadRow);
     }
-    field_mut(record.as_mut_slice(), place).copy_from_slice(bytes.as_slice());
-    push_digits(out, record.as_slice());
+    field_mut(record, place).copy_from_slice(bytes);
+    push_digits(out, record);
+    Ok(())
+}
+
+/// The record after bytes are written to a place.
+fn write(alloc: Global, row: &Row, out: &mut TextBuffer) -> Result<(), RowFault> {
+    let bytes = row.bytes(alloc, 4)?;
+    let mut record = row.bytes(alloc, 1)?;
+    push_written(record.as_mut_slice(), bytes.as_slice(), row, out)
+}
+
+/// Writes a record after the place of a row is filled with the first of bytes.
+fn push_filled(
+    record: &mut [u8],
+    bytes: &[u8],
+    row: &Row,
+    out: &mut TextBuffer,
+) -> Result<(), RowFault> {
+    let Some(byte) = bytes.first() else {
+        return Err(RowFault::BadRow);
+    };
+    let place = place_of(row, record.len())?;
+    field_mut(record, place).fill(*byte);
+    push_digits(out, record);
     Ok(())
 }
 
 /// The record after a place is filled with a byte.
 fn fill(alloc: Global, row: &Row, out: &mut TextBuffer) -> Result<(), RowFault> {
-    let mut record = row.bytes(alloc, 1)?;
-    let place = place_of(row, record.len())?;
     let bytes = row.bytes(alloc, 4)?;
-    let Some(byte) = bytes.first() else {
-        return Err(RowFault::BadRow);
-    };
-    field_mut(record.as_mut_slice(), place).fill(*byte);
-    push_digits(out, record.as_slice());
-    Ok(())
+    let mut record = row.bytes(alloc, 1)?;
+    push_filled(record.as_mut_slice(), bytes.as_slice(), row, out)
 }
 
 /// Writes the answer to a row's question about the bytes of a place.

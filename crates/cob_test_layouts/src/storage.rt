@@ -53,12 +53,22 @@ fn value_of(alloc: Global, row: &Row) -> Result<Value, RowFault> {
     }
 }
 
-/// What a group of so many bytes holds whose VALUE is this constant.
-pub(crate) fn constant(alloc: Global, row: &Row, out: &mut TextBuffer) -> Result<(), RowFault> {
-    let value = value_of(alloc, row)?;
-    let size: u16 = row.number(3)?;
+/// Writes what a group of so many bytes holds whose VALUE is this constant.
+fn push_group(
+    alloc: Global,
+    value: &Value,
+    size: u16,
+    out: &mut TextBuffer,
+) -> Result<(), AllocError> {
     let mut bytes = vec![in alloc; UNWRITTEN; usize::from(size)]?;
-    write_group(&value, &mut bytes);
+    write_group(value, &mut bytes);
     push_digits(out, bytes.as_slice());
     Ok(())
+}
+
+/// Writes what a group of a row's number of bytes holds whose VALUE is the row's constant.
+pub(crate) fn constant(alloc: Global, row: &Row, out: &mut TextBuffer) -> Result<(), RowFault> {
+    let size: u16 = row.number(3)?;
+    let value = value_of(alloc, row)?;
+    Ok(push_group(alloc, &value, size, out)?)
 }

@@ -57,13 +57,16 @@ fn push_fault(out: &mut TextBuffer, fault: MoveFault) -> Result<(), RowFault> {
     Ok(())
 }
 
-/// Writes what came of a paragraph.
+/// Reads the paragraph of a text between two records, and writes what came of it.
 fn push_read(
-    out: &mut TextBuffer,
-    read: Result<Paragraph, MoveFault>,
+    alloc: Global,
+    input: &Layout,
+    output: &Layout,
+    text: &[u8],
     has_steps: bool,
+    out: &mut TextBuffer,
 ) -> Result<(), RowFault> {
-    match read {
+    match read_paragraph(alloc, input, output, text) {
         Ok(paragraph) => {
             push_moves(out, &paragraph, has_steps);
             Ok(())
@@ -72,7 +75,7 @@ fn push_read(
     }
 }
 
-/// Reads the paragraph of a row between two records, and writes what came of it.
+/// The same of the paragraph of a row.
 fn push_between(
     alloc: Global,
     input: &Layout,
@@ -82,8 +85,7 @@ fn push_between(
     out: &mut TextBuffer,
 ) -> Result<(), RowFault> {
     let text = text_of(alloc, row)?;
-    let read = read_paragraph(alloc, input, output, text.as_slice());
-    push_read(out, read, has_steps)
+    push_read(alloc, input, output, text.as_slice(), has_steps, out)
 }
 
 /// The same between this input record and the output record of the row.
