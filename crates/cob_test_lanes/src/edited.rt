@@ -3,9 +3,9 @@
 ghost use Rattle.std.specs.Prelude.{◌<◌, ◌≤◌};
 
 use crate::draws::Draws;
-use crate::kinds::{ItemKind, all_kinds};
-use crate::moves::tally_move;
-use crate::numbers::{TRIES, drawn_item};
+use crate::kinds::{ItemKind, all_kinds, drawn_scale};
+use crate::moves::{Steps, tally_by};
+use crate::numbers::{TRIES, item_at};
 use crate::senders::drawn_record;
 use crate::tally::Tally;
 use cob_copybook_entry::Usage;
@@ -117,24 +117,41 @@ pub fn item_of(kind: &EditedKind) -> Option<Item> {
 /// Tries a move of an item of so many digits.
 fn try_move(
     alloc: Global,
-    from: &ItemKind,
+    steps: Steps,
+    from: (&ItemKind, u32),
     receiver: &Item,
-    sent: u32,
     draws: &mut Draws,
     tally: &mut Tally,
 ) -> Result<(), AllocError>
-    requires some { 0 < sent }
-    requires most { sent ≤ 31 }
+    requires some { 0 < from.1 }
+    requires most { from.1 ≤ 31 }
 {
-    let sender = drawn_item(alloc, from, sent, draws)?;
-    let record = drawn_record(alloc, from, sent as usize, draws)?;
-    match &sender {
-        Some(sender) => tally_move(alloc, sender, receiver, record.as_slice(), tally),
+    let (kind, sent) = from;
+    let scale = drawn_scale(draws, sent);
+    let record = drawn_record(alloc, kind, sent as usize, draws)?;
+    match item_at(alloc, kind, sent, scale)? {
+        Some(sender) => tally_by(alloc, steps, &sender, receiver, record.as_slice(), tally),
         None => {
             tally.count_none();
             Ok(())
         }
     }
+}
+
+/// Tries the moves of items of a kind to an edited item.
+fn try_to(
+    alloc: Global,
+    from: &ItemKind,
+    receiver: &Item,
+    draws: &mut Draws,
+    tally: &mut Tally,
+) -> Result<(), AllocError> {
+    for sent in 1..from.most_digits() + 1 {
+        for _ in 0..TRIES {
+            try_move(alloc, Steps::Short, (from, sent), receiver, draws, tally)?;
+        }
+    }
+    Ok(())
 }
 
 /// Tries the moves of items of a kind to edited items of a kind.
@@ -146,28 +163,47 @@ pub fn try_edited(
 ) -> Result<Tally, AllocError> {
     let mut tally = Tally::new();
     if let Some(receiver) = item_of(to) {
-        for sent in 1..from.most_digits() + 1 {
-            for _ in 0..TRIES {
-                try_move(alloc, from, &receiver, sent, draws, &mut tally)?;
-            }
-        }
+        try_to(alloc, from, &receiver, draws, &mut tally)?;
     }
     Ok(tally)
 }
 
-/// Tries the moves of items of all kinds to edited items of a kind; packed ones have up to thirty-one digits.
+/// The most digits of an item of a kind that is edited: by short steps packed ones have up to thirty-one.
+fn most_digits(steps: Steps, from: &ItemKind) -> u32
+    ensures { result ≤ 31 }
+{
+    match steps {
+        Steps::Short => from.most_wide_digits(),
+        Steps::Long => from.most_long_digits(),
+    }
+}
+
+/// Tries the moves of items of all kinds to an edited item.
+fn try_all_to(
+    alloc: Global,
+    steps: Steps,
+    receiver: &Item,
+    draws: &mut Draws,
+    tally: &mut Tally,
+) -> Result<(), AllocError> {
+    for from in &all_kinds() {
+        for sent in 1..most_digits(steps, from) + 1 {
+            try_move(alloc, steps, (from, sent), receiver, draws, tally)?;
+        }
+    }
+    Ok(())
+}
+
+/// Tries the moves of items of all kinds to edited items of a kind.
 pub fn try_all_edited(
     alloc: Global,
+    steps: Steps,
     to: &EditedKind,
     draws: &mut Draws,
 ) -> Result<Tally, AllocError> {
     let mut tally = Tally::new();
     if let Some(receiver) = item_of(to) {
-        for from in &all_kinds() {
-            for sent in 1..from.most_wide_digits() + 1 {
-                try_move(alloc, from, &receiver, sent, draws, &mut tally)?;
-            }
-        }
+        try_all_to(alloc, steps, &receiver, draws, &mut tally)?;
     }
     Ok(tally)
 }

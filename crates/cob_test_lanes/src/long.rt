@@ -4,17 +4,16 @@ ghost use Rattle.std.specs.Prelude.{◌<◌, ◌≤◌};
 
 use crate::characters::characters_item;
 use crate::draws::Draws;
-use crate::edited::{EditedKind, item_of};
-use crate::kinds::{ItemKind, all_kinds, edge_scales};
-use crate::moves::tally_long_move;
-use crate::numbers::{drawn_item, item_at};
+use crate::kinds::{ItemKind, drawn_scale, edge_scales};
+use crate::moves::{Steps, tally_long_move};
+use crate::numbers::{item_at, tally_to};
 use crate::senders::{SIGN_CODES, drawn_record, signed_record};
 use crate::tally::Tally;
 use crate::texts::drawn_text;
 use cob_copybook_tree::Item;
 use std::alloc::{AllocError, Global};
 
-/// No characters are a number of more digits.
+/// No item has more digits.
 const MOST: u32 = 31;
 
 /// Moves what a record ends with to an item.
@@ -36,21 +35,31 @@ fn tally_pair(
     }
 }
 
-/// Moves it to an item of a kind, of so many digits.
-fn try_to(
+/// Tries a move between items of two kinds, of so many digits.
+fn try_move(
     alloc: Global,
-    sender: &Option<Item>,
-    record: &[u8],
+    from: &ItemKind,
     to: &ItemKind,
+    sent: u32,
     received: u32,
     draws: &mut Draws,
     tally: &mut Tally,
 ) -> Result<(), AllocError>
-    requires some { 0 < received }
-    requires most { received ≤ 31 }
+    requires some_sent { 0 < sent }
+    requires most_sent { sent ≤ 31 }
+    requires some_received { 0 < received }
+    requires most_received { received ≤ 31 }
 {
-    let receiver = drawn_item(alloc, to, received, draws)?;
-    tally_pair(alloc, sender, &receiver, record, tally)
+    let scale = drawn_scale(draws, sent);
+    let record = drawn_record(alloc, from, sent as usize, draws)?;
+    let to = (to, received, drawn_scale(draws, received));
+    match item_at(alloc, from, sent, scale)? {
+        Some(sender) => tally_to(alloc, Steps::Long, &sender, to, record.as_slice(), tally),
+        None => {
+            tally.count_none();
+            Ok(())
+        }
+    }
 }
 
 /// Tries the moves between items of two kinds, of each number of digits.
@@ -63,20 +72,27 @@ pub fn try_long_kinds(
     let mut tally = Tally::new();
     for sent in 1..from.most_long_digits() + 1 {
         for received in 1..to.most_long_digits() + 1 {
-            let sender = drawn_item(alloc, from, sent, draws)?;
-            let record = drawn_record(alloc, from, sent as usize, draws)?;
-            try_to(
-                alloc,
-                &sender,
-                record.as_slice(),
-                to,
-                received,
-                draws,
-                &mut tally,
-            )?;
+            try_move(alloc, from, to, sent, received, draws, &mut tally)?;
         }
     }
     Ok(tally)
+}
+
+/// Tries a move of characters to an item of a kind, of so many digits.
+fn try_text(
+    alloc: Global,
+    sender: &Item,
+    to: &ItemKind,
+    received: u32,
+    draws: &mut Draws,
+    tally: &mut Tally,
+) -> Result<(), AllocError>
+    requires some { 0 < received }
+    requires most { received ≤ 31 }
+{
+    let record = drawn_text(alloc, sender, draws)?;
+    let to = (to, received, drawn_scale(draws, received));
+    tally_to(alloc, Steps::Long, sender, to, record.as_slice(), tally)
 }
 
 /// Tries the moves of characters, of each number, to items of a kind, of each number of digits.
@@ -86,67 +102,12 @@ pub fn try_long_characters(
     draws: &mut Draws,
 ) -> Result<Tally, AllocError> {
     let mut tally = Tally::new();
-    for sent in 1..MOST + 1 {
+    for sent in 1..Steps::Long.most_characters() + 1 {
         for received in 1..to.most_long_digits() + 1 {
-            let sender = characters_item(alloc, sent, false)?;
-            let record = match &sender {
-                Some(sender) => drawn_text(alloc, sender, draws)?,
-                None => Vec::new(alloc),
-            };
-            try_to(
-                alloc,
-                &sender,
-                record.as_slice(),
-                to,
-                received,
-                draws,
-                &mut tally,
-            )?;
-        }
-    }
-    Ok(tally)
-}
-
-/// Tries the moves of items of all kinds, of each number of digits, to edited items of a kind.
-pub fn try_long_edited(
-    alloc: Global,
-    to: &EditedKind,
-    draws: &mut Draws,
-) -> Result<Tally, AllocError> {
-    let mut tally = Tally::new();
-    let Some(receiver) = item_of(to) else {
-        return Ok(tally);
-    };
-    for from in &all_kinds() {
-        for sent in 1..from.most_long_digits() + 1 {
-            let sender = drawn_item(alloc, from, sent, draws)?;
-            let record = drawn_record(alloc, from, sent as usize, draws)?;
-            match &sender {
-                Some(sender) => {
-                    tally_long_move(alloc, sender, &receiver, record.as_slice(), &mut tally)?;
-                }
-                None => tally.count_none(),
+            if let Some(sender) = characters_item(alloc, sent, false)? {
+                try_text(alloc, &sender, to, received, draws, &mut tally)?;
             }
         }
-    }
-    Ok(tally)
-}
-
-/// Tries the moves of characters, of each number, to edited items of a kind.
-pub fn try_long_numerals(
-    alloc: Global,
-    to: &EditedKind,
-    draws: &mut Draws,
-) -> Result<Tally, AllocError> {
-    let mut tally = Tally::new();
-    let receiver = item_of(to);
-    for sent in 1..MOST + 1 {
-        let sender = characters_item(alloc, sent, false)?;
-        let record = match &sender {
-            Some(sender) => drawn_text(alloc, sender, draws)?,
-            None => Vec::new(alloc),
-        };
-        tally_pair(alloc, &sender, &receiver, record.as_slice(), &mut tally)?;
     }
     Ok(tally)
 }
@@ -170,6 +131,27 @@ fn try_signs(
     Ok(())
 }
 
+/// The same between an item and those of so many digits at each scale at the edges.
+fn try_scales(
+    alloc: Global,
+    from: &ItemKind,
+    sent: u32,
+    sender: &Option<Item>,
+    to: (&ItemKind, u32),
+    draws: &mut Draws,
+    tally: &mut Tally,
+) -> Result<(), AllocError>
+    requires sent { sent ≤ 31 }
+    requires received { to.1 ≤ 31 }
+{
+    let (kind, received) = to;
+    for scale in edge_scales(received) {
+        let receiver = item_at(alloc, kind, received, scale)?;
+        try_signs(alloc, from, sent, sender, &receiver, draws, tally)?;
+    }
+    Ok(())
+}
+
 /// Tries the moves between items of two kinds and the same number of digits, each from 1 to 31 or the most that one of them has, at each two scales at
 /// the edges, with each sign.
 pub fn try_long_edges(
@@ -181,13 +163,10 @@ pub fn try_long_edges(
     let mut tally = Tally::new();
     for digits in 1..MOST + 1 {
         let sent = from.long_digits(digits);
-        let received = to.long_digits(digits);
+        let to = (to, to.long_digits(digits));
         for scale in edge_scales(sent) {
             let sender = item_at(alloc, from, sent, scale)?;
-            for other in edge_scales(received) {
-                let receiver = item_at(alloc, to, received, other)?;
-                try_signs(alloc, from, sent, &sender, &receiver, draws, &mut tally)?;
-            }
+            try_scales(alloc, from, sent, &sender, to, draws, &mut tally)?;
         }
     }
     Ok(tally)

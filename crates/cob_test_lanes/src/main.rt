@@ -35,19 +35,24 @@ use crate::edited::{
     EditedKind, edited_kinds, long_kinds, longest_kinds, try_all_edited, try_edited,
 };
 use crate::kinds::{all_kinds, kinds};
-use crate::long::{
-    try_long_characters, try_long_edges, try_long_edited, try_long_kinds, try_long_numerals,
-};
-use crate::long_senders::{try_long_near, try_long_shown, try_long_to_edited, try_long_to_numbers};
+use crate::long::{try_long_characters, try_long_edges, try_long_kinds};
+use crate::long_senders::{try_long_near, try_long_shown};
+use crate::moves::Steps;
 use crate::near::try_near;
 use crate::numbers::{try_kinds, try_wide_kinds};
 use crate::shown::try_shown;
 use crate::tally::Tally;
+use std::alloc::AllocError;
 use std::io;
 
 /// Prints what came of moves.
-fn print_tally(rt: HostRuntime, from: &str, to: &str, tally: &Tally) -> io::Result<()> {
-    let (moved, no_number, no_step, sum) = tally.parts();
+fn print_tally(
+    rt: HostRuntime,
+    from: &str,
+    to: &str,
+    came: Result<Tally, AllocError>,
+) -> io::Result<()> {
+    let (moved, no_number, no_step, sum) = came?.parts();
     println!(rt;
         "{from} to {to}: {moved} moved, {no_number} no number, {no_step} no step, sum {sum}"
     )
@@ -58,8 +63,8 @@ fn print_numbers(rt: HostRuntime, draws: &mut Draws) -> io::Result<()> {
     let kinds = kinds();
     for from in &kinds {
         for to in &kinds {
-            let tally = try_kinds(rt.alloc(), from, to, draws)?;
-            print_tally(rt, from.name, to.name, &tally)?;
+            let came = try_kinds(rt.alloc(), from, to, draws);
+            print_tally(rt, from.name, to.name, came)?;
         }
     }
     Ok(())
@@ -71,8 +76,8 @@ fn print_binary(rt: HostRuntime, draws: &mut Draws) -> io::Result<()> {
     for from in &kinds {
         for to in &kinds {
             if from.is_binary() || to.is_binary() {
-                let tally = try_kinds(rt.alloc(), from, to, draws)?;
-                print_tally(rt, from.name, to.name, &tally)?;
+                let came = try_kinds(rt.alloc(), from, to, draws);
+                print_tally(rt, from.name, to.name, came)?;
             }
         }
     }
@@ -85,8 +90,8 @@ fn print_wide(rt: HostRuntime, draws: &mut Draws) -> io::Result<()> {
     for from in &kinds {
         for to in &kinds {
             if from.is_packed() || to.is_packed() {
-                let tally = try_wide_kinds(rt.alloc(), from, to, draws)?;
-                print_tally(rt, from.name, to.name, &tally)?;
+                let came = try_wide_kinds(rt.alloc(), from, to, draws);
+                print_tally(rt, from.name, to.name, came)?;
             }
         }
     }
@@ -98,8 +103,8 @@ fn print_edited(rt: HostRuntime, draws: &mut Draws) -> io::Result<()> {
     let kinds = all_kinds();
     for from in &kinds {
         for to in &edited_kinds() {
-            let tally = try_edited(rt.alloc(), from, to, draws)?;
-            print_tally(rt, from.name, to.picture, &tally)?;
+            let came = try_edited(rt.alloc(), from, to, draws);
+            print_tally(rt, from.name, to.picture, came)?;
         }
     }
     Ok(())
@@ -113,8 +118,8 @@ fn print_characters(rt: HostRuntime, draws: &mut Draws) -> io::Result<()> {
         ("group", "JUSTIFIED", CharacterMove::FromGroup),
         ("characters", "group", CharacterMove::ToGroup),
     ] {
-        let tally = try_characters(rt.alloc(), which, draws)?;
-        print_tally(rt, from, to, &tally)?;
+        let came = try_characters(rt.alloc(), which, draws);
+        print_tally(rt, from, to, came)?;
     }
     Ok(())
 }
@@ -122,8 +127,8 @@ fn print_characters(rt: HostRuntime, draws: &mut Draws) -> io::Result<()> {
 /// Constants.
 fn print_constants(rt: HostRuntime) -> io::Result<()> {
     for (name, figurative) in figuratives() {
-        let tally = try_figurative(rt.alloc(), figurative)?;
-        print_tally(rt, name, "all", &tally)?;
+        let came = try_figurative(rt.alloc(), figurative);
+        print_tally(rt, name, "all", came)?;
     }
     Ok(())
 }
@@ -131,8 +136,8 @@ fn print_constants(rt: HostRuntime) -> io::Result<()> {
 /// Numbers edited in more than sixteen bytes.
 fn print_long(rt: HostRuntime, draws: &mut Draws) -> io::Result<()> {
     for to in &long_kinds() {
-        let tally = try_all_edited(rt.alloc(), to, draws)?;
-        print_tally(rt, "numbers", to.picture, &tally)?;
+        let came = try_all_edited(rt.alloc(), Steps::Short, to, draws);
+        print_tally(rt, "numbers", to.picture, came)?;
     }
     Ok(())
 }
@@ -140,8 +145,8 @@ fn print_long(rt: HostRuntime, draws: &mut Draws) -> io::Result<()> {
 /// Characters that are numbers.
 fn print_numerals(rt: HostRuntime, draws: &mut Draws) -> io::Result<()> {
     for to in &all_kinds() {
-        let tally = try_characters_to_numbers(rt.alloc(), to, draws)?;
-        print_tally(rt, "characters", to.name, &tally)?;
+        let came = try_characters_to_numbers(rt.alloc(), to, draws);
+        print_tally(rt, "characters", to.name, came)?;
     }
     Ok(())
 }
@@ -153,21 +158,29 @@ fn print_edited_numerals(
     draws: &mut Draws,
 ) -> io::Result<()> {
     for to in kinds {
-        let tally = try_characters_to_edited(rt.alloc(), to, draws)?;
-        print_tally(rt, "characters", to.picture, &tally)?;
+        let came = try_characters_to_edited(rt.alloc(), Steps::Short, to, draws);
+        print_tally(rt, "characters", to.picture, came)?;
     }
     Ok(())
 }
 
 /// Numbers that were edited.
-fn print_deedited(rt: HostRuntime, kinds: &[EditedKind], draws: &mut Draws) -> io::Result<()> {
+fn print_deedited(
+    rt: HostRuntime,
+    steps: Steps,
+    kinds: &[EditedKind],
+    draws: &mut Draws,
+) -> io::Result<()> {
     for from in kinds {
-        let tally = try_edited_to_numbers(rt.alloc(), from, draws)?;
-        print_tally(rt, from.picture, "numbers", &tally)?;
-        let tally = try_edited_to_edited(rt.alloc(), from, draws)?;
-        print_tally(rt, from.picture, "edited", &tally)?;
-        let tally = try_near(rt.alloc(), from, draws)?;
-        print_tally(rt, from.picture, "zoned trailing, one byte another", &tally)?;
+        let came = try_edited_to_numbers(rt.alloc(), steps, from, draws);
+        print_tally(rt, from.picture, "numbers", came)?;
+        let came = try_edited_to_edited(rt.alloc(), steps, from, draws);
+        print_tally(rt, from.picture, "edited", came)?;
+        let came = match steps {
+            Steps::Short => try_near(rt.alloc(), from, draws),
+            Steps::Long => try_long_near(rt.alloc(), from, draws),
+        };
+        print_tally(rt, from.picture, "zoned trailing, one byte another", came)?;
     }
     Ok(())
 }
@@ -175,10 +188,10 @@ fn print_deedited(rt: HostRuntime, kinds: &[EditedKind], draws: &mut Draws) -> i
 /// Numbers as characters.
 fn print_shown(rt: HostRuntime, draws: &mut Draws) -> io::Result<()> {
     for from in &all_kinds() {
-        let tally = try_shown(rt.alloc(), from, false, draws)?;
-        print_tally(rt, from.name, "characters", &tally)?;
-        let tally = try_shown(rt.alloc(), from, true, draws)?;
-        print_tally(rt, from.name, "JUSTIFIED", &tally)?;
+        let came = try_shown(rt.alloc(), from, false, draws);
+        print_tally(rt, from.name, "characters", came)?;
+        let came = try_shown(rt.alloc(), from, true, draws);
+        print_tally(rt, from.name, "JUSTIFIED", came)?;
     }
     Ok(())
 }
@@ -189,18 +202,18 @@ fn print_texts(rt: HostRuntime, draws: &mut Draws) -> io::Result<()> {
     print_numerals(rt, draws)?;
     print_edited_numerals(rt, &edited_kinds(), draws)?;
     print_edited_numerals(rt, &long_kinds(), draws)?;
-    print_deedited(rt, &edited_kinds(), draws)?;
-    print_deedited(rt, &long_kinds(), draws)?;
+    print_deedited(rt, Steps::Short, &edited_kinds(), draws)?;
+    print_deedited(rt, Steps::Short, &long_kinds(), draws)?;
     print_shown(rt, draws)
 }
 
 /// Numbers and characters of any number of digits, edited.
 fn print_long_edited(rt: HostRuntime, kinds: &[EditedKind], draws: &mut Draws) -> io::Result<()> {
     for to in kinds {
-        let tally = try_long_edited(rt.alloc(), to, draws)?;
-        print_tally(rt, "numbers", to.picture, &tally)?;
-        let tally = try_long_numerals(rt.alloc(), to, draws)?;
-        print_tally(rt, "characters", to.picture, &tally)?;
+        let came = try_all_edited(rt.alloc(), Steps::Long, to, draws);
+        print_tally(rt, "numbers", to.picture, came)?;
+        let came = try_characters_to_edited(rt.alloc(), Steps::Long, to, draws);
+        print_tally(rt, "characters", to.picture, came)?;
     }
     Ok(())
 }
@@ -210,8 +223,8 @@ fn print_edges(rt: HostRuntime, draws: &mut Draws) -> io::Result<()> {
     let kinds = all_kinds();
     for from in &kinds {
         for to in &kinds {
-            let tally = try_long_edges(rt.alloc(), from, to, draws)?;
-            print_tally(rt, from.name, to.name, &tally)?;
+            let came = try_long_edges(rt.alloc(), from, to, draws);
+            print_tally(rt, from.name, to.name, came)?;
         }
     }
     Ok(())
@@ -222,13 +235,13 @@ fn print_long_numbers(rt: HostRuntime, draws: &mut Draws) -> io::Result<()> {
     let kinds = all_kinds();
     for from in &kinds {
         for to in &kinds {
-            let tally = try_long_kinds(rt.alloc(), from, to, draws)?;
-            print_tally(rt, from.name, to.name, &tally)?;
+            let came = try_long_kinds(rt.alloc(), from, to, draws);
+            print_tally(rt, from.name, to.name, came)?;
         }
     }
     for to in &kinds {
-        let tally = try_long_characters(rt.alloc(), to, draws)?;
-        print_tally(rt, "characters", to.name, &tally)?;
+        let came = try_long_characters(rt.alloc(), to, draws);
+        print_tally(rt, "characters", to.name, came)?;
     }
     print_long_edited(rt, &edited_kinds(), draws)?;
     print_long_edited(rt, &long_kinds(), draws)?;
@@ -236,26 +249,13 @@ fn print_long_numbers(rt: HostRuntime, draws: &mut Draws) -> io::Result<()> {
     print_edges(rt, draws)
 }
 
-/// Edited items by steps of numbers of any number of digits.
-fn print_long_deedited(rt: HostRuntime, kinds: &[EditedKind], draws: &mut Draws) -> io::Result<()> {
-    for from in kinds {
-        let tally = try_long_to_numbers(rt.alloc(), from, draws)?;
-        print_tally(rt, from.picture, "numbers", &tally)?;
-        let tally = try_long_to_edited(rt.alloc(), from, draws)?;
-        print_tally(rt, from.picture, "edited", &tally)?;
-        let tally = try_long_near(rt.alloc(), from, draws)?;
-        print_tally(rt, from.picture, "zoned trailing, one byte another", &tally)?;
-    }
-    Ok(())
-}
-
 /// Numbers of any number of digits as characters.
 fn print_long_shown(rt: HostRuntime, draws: &mut Draws) -> io::Result<()> {
     for from in &all_kinds() {
-        let tally = try_long_shown(rt.alloc(), from, false, draws)?;
-        print_tally(rt, from.name, "characters", &tally)?;
-        let tally = try_long_shown(rt.alloc(), from, true, draws)?;
-        print_tally(rt, from.name, "JUSTIFIED", &tally)?;
+        let came = try_long_shown(rt.alloc(), from, false, draws);
+        print_tally(rt, from.name, "characters", came)?;
+        let came = try_long_shown(rt.alloc(), from, true, draws);
+        print_tally(rt, from.name, "JUSTIFIED", came)?;
     }
     Ok(())
 }
@@ -270,8 +270,8 @@ fn main(rt: HostRuntime) -> io::Result<()> {
     print_wide(rt, &mut draws)?;
     print_texts(rt, &mut draws)?;
     print_long_numbers(rt, &mut draws)?;
-    print_long_deedited(rt, &edited_kinds(), &mut draws)?;
-    print_long_deedited(rt, &long_kinds(), &mut draws)?;
-    print_long_deedited(rt, &longest_kinds(), &mut draws)?;
+    print_deedited(rt, Steps::Long, &edited_kinds(), &mut draws)?;
+    print_deedited(rt, Steps::Long, &long_kinds(), &mut draws)?;
+    print_deedited(rt, Steps::Long, &longest_kinds(), &mut draws)?;
     print_long_shown(rt, &mut draws)
 }

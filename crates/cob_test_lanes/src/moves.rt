@@ -2,6 +2,7 @@
 
 ghost use Rattle.std.specs.Prelude.{◌≤◌, length};
 
+use crate::kinds::ItemKind;
 use crate::tally::Tally;
 use cob_copybook_tree::Item;
 use cob_move_steps::{
@@ -11,6 +12,37 @@ use std::alloc::{AllocError, Global};
 
 /// What stands in a receiver's bytes before the move.
 pub const UNWRITTEN: u8 = 0xAA;
+
+/// The steps by which numbers are moved.
+#[derive(Clone, Copy)]
+pub enum Steps {
+    /// Those of sixteen digits and bytes, and those beside them.
+    Short,
+    /// Those of any number of digits.
+    Long,
+}
+
+impl Steps {
+    /// The most digits of an item of a kind.
+    pub fn most_digits(self, kind: &ItemKind) -> u32
+        ensures { result ≤ 31 }
+    {
+        match self {
+            Steps::Short => kind.most_digits(),
+            Steps::Long => kind.most_long_digits(),
+        }
+    }
+
+    /// The most characters that give a number.
+    pub fn most_characters(self) -> u32
+        ensures { result ≤ 31 }
+    {
+        match self {
+            Steps::Short => 16,
+            Steps::Long => 31,
+        }
+    }
+}
 
 /// Moves the number of the edited item at the end of a record to a receiver's bytes, where there is a step.
 fn deedited(
@@ -115,4 +147,19 @@ pub fn tally_long_move(
         None => tally.count_none(),
     }
     Ok(())
+}
+
+/// Moves the number at the end of a record to a receiver by some of the steps, and counts what came of it.
+pub fn tally_by(
+    alloc: Global,
+    steps: Steps,
+    sender: &Item,
+    receiver: &Item,
+    record: &[u8],
+    tally: &mut Tally,
+) -> Result<(), AllocError> {
+    match steps {
+        Steps::Short => tally_move(alloc, sender, receiver, record, tally),
+        Steps::Long => tally_long_move(alloc, sender, receiver, record, tally),
+    }
 }

@@ -14,29 +14,41 @@ use cob_move_steps::TextStep;
 use std::alloc::{AllocError, Global};
 
 /// What is put in the place of each byte: a space, 0, 1, and the bytes of symbols.
-pub const NEAR: [u8; 12] = [
+const NEAR: [u8; 12] = [
     0x40, 0xF0, 0xF1, 0x5C, 0x5B, 0x4E, 0x60, 0x6B, 0x4B, 0x61, 0xC3, 0xC4,
 ];
 
 /// Puts a byte in its place.
-pub fn put(record: &mut [u8], place: usize, byte: u8) {
+fn put(record: &mut [u8], place: usize, byte: u8) {
     if place < record.len() {
         record[place] = byte;
     }
 }
 
-/// Moves a text in which one byte is each of those, and counts what came of it.
-fn tally_place(step: &TextStep, record: &mut [u8], place: usize, tally: &mut Tally) {
-    for byte in NEAR {
-        put(record, place, byte);
+/// A step to a zoned item that is tried with bytes that are no text.
+pub trait TriedStep {
+    /// Moves the bytes at the end of a record, and counts what came of it.
+    fn try_bytes(&self, record: &[u8], tally: &mut Tally);
+}
+
+impl TriedStep for TextStep {
+    fn try_bytes(&self, record: &[u8], tally: &mut Tally) {
         let mut bytes = [UNWRITTEN; 16];
-        let moved = step.run(record, &mut bytes);
+        let moved = self.run(record, &mut bytes);
         tally.count(moved, &bytes);
     }
 }
 
+/// Moves a text in which one byte is each of those, and counts what came of it.
+fn tally_place<S: TriedStep>(step: &S, record: &mut [u8], place: usize, tally: &mut Tally) {
+    for byte in NEAR {
+        put(record, place, byte);
+        step.try_bytes(record, tally);
+    }
+}
+
 /// Moves the text of so many bytes that ends a record, with each byte another in turn.
-fn tally_near(step: &TextStep, record: &mut [u8], size: usize, tally: &mut Tally) {
+fn tally_near<S: TriedStep>(step: &S, record: &mut [u8], size: usize, tally: &mut Tally) {
     let first = record.len().saturating_sub(size);
     for number in 0..size {
         let place = first.saturating_add(number);
@@ -49,10 +61,10 @@ fn tally_near(step: &TextStep, record: &mut [u8], size: usize, tally: &mut Tally
 }
 
 /// Tries such moves by a step: of the texts of zero, of the least and of the greatest number, and of drawn ones.
-fn try_step(
+pub fn try_step<S: TriedStep>(
     alloc: Global,
     sender: &Item,
-    step: &TextStep,
+    step: &S,
     draws: &mut Draws,
     tally: &mut Tally,
 ) -> Result<(), AllocError> {
@@ -69,16 +81,22 @@ fn try_step(
     Ok(())
 }
 
+/// The step from an edited item to a zoned one that has places for all digits.
+fn step_from(alloc: Global, sender: &Item) -> Result<Option<TextStep>, AllocError> {
+    let [_, zoned, _, _, _, _, _] = kinds();
+    let scale = i32::from(sender.picture.scale());
+    match item_at(alloc, &zoned, 16, scale)? {
+        Some(receiver) => TextStep::prepare(alloc, sender, &receiver),
+        None => Ok(None),
+    }
+}
+
 /// Tries such moves of edited items of a kind to an item that has places for all digits.
 pub fn try_near(alloc: Global, from: &EditedKind, draws: &mut Draws) -> Result<Tally, AllocError> {
     let mut tally = Tally::new();
-    let [_, zoned, _, _, _, _, _] = kinds();
     if let Some(sender) = item_of(from) {
-        let scale = i32::from(sender.picture.scale());
-        if let Some(receiver) = item_at(alloc, &zoned, 16, scale)? {
-            if let Some(step) = TextStep::prepare(alloc, &sender, &receiver)? {
-                try_step(alloc, &sender, &step, draws, &mut tally)?;
-            }
+        if let Some(step) = step_from(alloc, &sender)? {
+            try_step(alloc, &sender, &step, draws, &mut tally)?;
         }
     }
     Ok(tally)

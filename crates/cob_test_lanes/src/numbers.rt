@@ -4,7 +4,7 @@ ghost use Rattle.std.specs.Prelude.{◌<◌, ◌≤◌};
 
 use crate::draws::Draws;
 use crate::kinds::{ItemKind, drawn_scale, push_picture};
-use crate::moves::tally_move;
+use crate::moves::{Steps, tally_by};
 use crate::senders::drawn_record;
 use crate::tally::Tally;
 use cob_copybook_tree::Item;
@@ -51,6 +51,27 @@ pub fn drawn_item(
     item_at(alloc, kind, digits, scale)
 }
 
+/// Moves the number at the end of a record from an item to one of a kind, by some of the steps, and counts what came of it.
+pub fn tally_to(
+    alloc: Global,
+    steps: Steps,
+    sender: &Item,
+    to: (&ItemKind, u32, i32),
+    record: &[u8],
+    tally: &mut Tally,
+) -> Result<(), AllocError>
+    requires { to.1 ≤ 31 }
+{
+    let (kind, digits, scale) = to;
+    match item_at(alloc, kind, digits, scale)? {
+        Some(receiver) => tally_by(alloc, steps, sender, &receiver, record, tally),
+        None => {
+            tally.count_none();
+            Ok(())
+        }
+    }
+}
+
 /// Tries a move between items of two kinds and numbers of digits.
 fn try_move(
     alloc: Global,
@@ -66,14 +87,12 @@ fn try_move(
     requires some_received { 0 < received }
     requires most_received { received ≤ 31 }
 {
-    let sender = drawn_item(alloc, from, sent, draws)?;
-    let receiver = drawn_item(alloc, to, received, draws)?;
+    let scale = drawn_scale(draws, sent);
+    let to = (to, received, drawn_scale(draws, received));
     let record = drawn_record(alloc, from, sent as usize, draws)?;
-    match (&sender, &receiver) {
-        (Some(sender), Some(receiver)) => {
-            tally_move(alloc, sender, receiver, record.as_slice(), tally)
-        }
-        _ => {
+    match item_at(alloc, from, sent, scale)? {
+        Some(sender) => { tally_to(alloc, Steps::Short, &sender, to, record.as_slice(), tally) }
+        None => {
             tally.count_none();
             Ok(())
         }

@@ -9,6 +9,7 @@ use crate::moves::UNWRITTEN;
 use crate::numbers::item_at;
 use crate::senders::drawn_record;
 use crate::tally::Tally;
+use cob_copybook_tree::Item;
 use cob_move_steps::NumeralsStep;
 use std::alloc::{AllocError, Global};
 
@@ -22,30 +23,33 @@ fn tally_move(step: &NumeralsStep, record: &[u8], size: usize, tally: &mut Tally
     tally.count(moved, &bytes[..size]);
 }
 
-/// Tries a move of an item of so many digits to one of so many characters.
+/// Moves the number at the end of a record from an item to one of characters, where there is a step, and counts what came of it.
+fn tally_shown(sender: &Item, receiver: &Item, record: &[u8], received: u32, tally: &mut Tally) {
+    match NumeralsStep::prepare(sender, receiver) {
+        Some(step) => tally_move(&step, record, received as usize, tally),
+        None => tally.count_none(),
+    }
+}
+
+/// Tries a move of an item of so many digits to one of characters.
 fn try_move(
     alloc: Global,
-    from: &ItemKind,
-    justified: bool,
-    sent: u32,
+    from: (&ItemKind, u32),
+    receiver: &Item,
     received: u32,
     draws: &mut Draws,
     tally: &mut Tally,
 ) -> Result<(), AllocError>
-    requires some { 0 < sent }
-    requires most { sent ≤ 16 }
+    requires some { 0 < from.1 }
+    requires most { from.1 ≤ 16 }
 {
+    let (kind, sent) = from;
     let scale = drawn_short_scale(draws, sent);
-    let sender = item_at(alloc, from, sent, scale)?;
-    let record = drawn_record(alloc, from, sent as usize, draws)?;
-    let receiver = characters_item(alloc, received, justified)?;
-    if let (Some(sender), Some(receiver)) = (&sender, &receiver) {
-        if let Some(step) = NumeralsStep::prepare(sender, receiver) {
-            tally_move(&step, record.as_slice(), received as usize, tally);
-            return Ok(());
-        }
+    let record = drawn_record(alloc, kind, sent as usize, draws)?;
+    match item_at(alloc, kind, sent, scale)? {
+        Some(sender) => tally_shown(&sender, receiver, record.as_slice(), received, tally),
+        None => tally.count_none(),
     }
-    tally.count_none();
     Ok(())
 }
 
@@ -59,7 +63,9 @@ pub fn try_shown(
     let mut tally = Tally::new();
     for sent in 1..from.most_digits() + 1 {
         for received in 1..LONGEST + 1 {
-            try_move(alloc, from, justified, sent, received, draws, &mut tally)?;
+            if let Some(receiver) = characters_item(alloc, received, justified)? {
+                try_move(alloc, (from, sent), &receiver, received, draws, &mut tally)?;
+            }
         }
     }
     Ok(tally)

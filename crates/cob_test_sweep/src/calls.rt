@@ -5,7 +5,7 @@ ghost use Rattle.std.specs.Prelude.{◌≡◌, IfOk};
 use crate::figures::Figures;
 use crate::job::SweepJob;
 use cob_codec::Reading;
-use cob_convert::Converter;
+use cob_convert::{Converter, PrepareFault};
 use cob_copybook::{Book, Role};
 use cob_layout::Layout;
 use cob_move::{ConditionNames, Paragraph};
@@ -186,8 +186,8 @@ fn read_input(
 }
 
 /// Prepares the conversion, with binary senders read so.
-fn prepare(alloc: Global, job: &SweepJob, reading: Reading) -> Result<Converter, Refused> {
-    let prepared = Converter::prepare_with(
+fn prepared(alloc: Global, job: &SweepJob, reading: Reading) -> Result<Converter, PrepareFault> {
+    Converter::prepare_with(
         alloc,
         job.in_book.as_bytes(),
         job.out_book.as_bytes(),
@@ -195,13 +195,12 @@ fn prepare(alloc: Global, job: &SweepJob, reading: Reading) -> Result<Converter,
         job.in_form,
         job.out_form,
         reading,
-    );
-    match prepared {
-        Ok(converter) => Ok(converter),
-        Err(_) => Err(Refused {
-            call: "prepare_with",
-        }),
-    }
+    )
+}
+
+/// Whether the conversion is prepared where all of a binary sender is read.
+fn prepares_whole(alloc: Global, job: &SweepJob) -> bool {
+    prepared(alloc, job, Reading::Whole).is_ok()
 }
 
 /// Converts the records, and answers how many these are.
@@ -235,9 +234,15 @@ fn convert(
     room: &mut [u8],
     figures: &mut Figures,
 ) -> Result<(), Refused> {
-    let mut converter = prepare(alloc, job, Reading::Pictured)?;
-    let ran = run(&mut converter, &job.data, room, figures);
-    count(ran, figures)
+    match prepared(alloc, job, Reading::Pictured) {
+        Ok(mut converter) => {
+            let ran = run(&mut converter, &job.data, room, figures);
+            count(ran, figures)
+        }
+        Err(_) => Err(Refused {
+            call: "prepare_with",
+        }),
+    }
 }
 
 /// Whether a job is done that is one text.
@@ -271,8 +276,7 @@ pub(crate) fn do_job(
     let has_words = reads_paragraph_words(alloc, job.moves.as_bytes());
     did(has_words, "paragraph_tokens")?;
     read_input(alloc, job, room, figures)?;
-    let is_prepared = prepare(alloc, job, Reading::Whole).is_ok();
-    did(is_prepared, "prepare_with")?;
+    did(prepares_whole(alloc, job), "prepare_with")?;
     convert(alloc, job, room, figures)?;
     print_job(alloc, job, room, figures)?;
     figures.ok = figures.ok.saturating_add(1);
