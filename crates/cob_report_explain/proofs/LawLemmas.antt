@@ -19,7 +19,7 @@ use Rattle.cob_report_explain.specs.Each.{AreOfMove, AreOfMoves, AreSingles, Eac
 
 gets_one : (t : Forest Resolved) (m : NumberedMove) (k : ℕ) (content : Content) (q : Ref) (before : List ℕ) (one : Single) → IsSingleTo t m k content q before one
     → Gets t content (operand_in t q) before (Ok one.storage)
-gets_one t m k content q before one (is, (bytes, at, received, after), mark) = (one.place, bytes, at, received, after)
+gets_one t m k content q before one (is, (bytes, at, received, after), mark, first) = (one.place, bytes, at, received, after)
 
 gets_none : (t : Forest Resolved) (content : Content) (q : Ref) (before : List ℕ) (lack : AskedStop) → LacksFor t content q before lack → Gets t content (operand_in t q) before (Err lack.stop)
 gets_none t content q before lack (inl (stop, at, is)) =

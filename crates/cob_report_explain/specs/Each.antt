@@ -1,5 +1,5 @@
 -- Single moves, one after another: what each is and does, and where they stop.
-use Rattle.std.specs.Prelude.{◌≡◌, ◌⊎◌, Bool, ℕ, ◌+◌, List, [], ◌∷◌, ◌++◌, map, Option, Some, None, true, Ok, Err, Result, option_map}
+use Rattle.std.specs.Prelude.{◌≡◌, ◌⊎◌, Bool, ℕ, ◌+◌, List, [], ◌∷◌, ◌++◌, map, take, Option, Some, None, true, false, Ok, Err, Result, option_map, if◌then◌else◌}
 use Rattle.cob_codec.specs.declared.reading.Reading.{Reading}
 use Rattle.cob_copybook_tree.specs.Forests.{Forest}
 use Rattle.cob_copybook_tree.specs.Nodes.{Resolved}
@@ -9,6 +9,7 @@ use Rattle.cob_layout_places.specs.declared.reference.Ref.{Ref}
 use Rattle.cob_move_data.specs.declared.operands.Sender as code
 use Rattle.cob_move_data.specs.declared.operands.Sender.TheVariants as code_sender
 use Rattle.cob_move_data.specs.declared.operands.NumberedPair.{NumberedPair}
+use Rattle.cob_move_data.specs.declared.operands.Operand.{Operand}
 use Rattle.cob_move_data.specs.declared.operands.PairMoves.{PairMoves}
 use Rattle.cob_move_data.specs.declared.operands.StatementMoves.{StatementMoves}
 use Rattle.cob_move_data.specs.declared.operands.StatementMoves.TheVariants.{Single as SingleMoves, Pairs}
@@ -20,6 +21,7 @@ use Rattle.cob_move_apply.specs.declared.stop.StopCause.TheVariants.{NoValue}
 use Rattle.cob_move_apply.specs.Applied.{Content, Ending, Gives}
 use Rattle.cob_move_apply.specs.Located.{Located, stop_at}
 use Rattle.cob_report_explain.specs.Anyhow.{IsMark}
+use Rattle.cob_report_explain.specs.Counted.{Counts, SendingItem, counts_behind}
 use Rattle.cob_report_explain.specs.declared.single.Asked.{Asked}
 use Rattle.cob_report_explain.specs.declared.single.Asked.TheVariants as asked
 use Rattle.cob_report_explain.specs.declared.single.AskedStop.{AskedStop}
@@ -65,8 +67,8 @@ move_meant reading r m = record { sender = sender_by reading r m.sender; receive
 abbrev pub single_number : NumberedMove → ℕ → SingleNumber
 single_number m k = record { statement = m.statement; pair = m.pair; receiver = k }
 
--- A single move that was carried out: which it is, its sender and what that gave, its receiver with its place, the storage behind it, and whether
--- it took a number by any zones that strict zones refuse.
+-- A single move that was carried out: which it is, its sender and what that gave, its receiver with its place, the storage behind it, whether
+-- it took a number by any zones that strict zones refuse, and whether no item stands before its receiver.
 pub record Single : Type 0 where
   pub number : SingleNumber
   pub sender : code.Sender
@@ -75,10 +77,11 @@ pub record Single : Type 0 where
   pub place : Place
   pub storage : List ℕ
   pub by_any_zones : Bool
+  pub is_first : Bool
 
 -- the single move of a move to its receiver with this number
-abbrev pub single : NumberedMove → ℕ → Content → Ref → Place → List ℕ → Bool → Single
-single m k content q p storage mark = record {
+abbrev pub single : NumberedMove → ℕ → Content → Ref → Place → List ℕ → (mark is_first : Bool) → Single
+single m k content q p storage mark is_first = record {
   number = single_number m k;
   sender = m.sender;
   content = content;
@@ -86,7 +89,13 @@ single m k content q p storage mark = record {
   place = p;
   storage = storage;
   by_any_zones = mark;
+  is_first = is_first;
 }
+
+-- each of these is a group, which takes bytes as they are
+abbrev pub are_groups : List Operand → Bool
+are_groups [] = true
+are_groups (o ∷ os) = if is_group_kind o.kind then are_groups os else false
 
 -- A receiver gets what the sender gave: at its place the bytes become what it receives, and all others stay.
 abbrev pub GetsAt : Forest Resolved → Content → Ref → List ℕ → Place → List ℕ → Type 0
@@ -94,11 +103,13 @@ GetsAt tree content q before p after =
     (bytes : List ℕ) × Located Out tree true (operand_in tree q) before (Ok p)
     × Received content.sent (operand_in tree q).kind p.length (Some bytes) × (after ≡ with_field before p bytes)
 
--- It is the single move of a move to this receiver, which has this number. It is marked exactly where it took a number that strict zones refuse.
+-- It is the single move of a move to this receiver, which has this number. It is marked exactly where it took a number that strict zones refuse, and it is
+-- the first exactly where the receivers before it are groups.
 abbrev pub IsSingleTo : Forest Resolved → NumberedMove → ℕ → Content → Ref → List ℕ → Single → Type 0
 IsSingleTo tree m k content q before one =
-    (one ≡ single m k content q one.place one.storage one.by_any_zones) × GetsAt tree content q before one.place one.storage
+    (one ≡ single m k content q one.place one.storage one.by_any_zones one.is_first) × GetsAt tree content q before one.place one.storage
     × IsMark (operand_in tree q).kind content.sent one.by_any_zones
+    × (one.is_first ≡ are_groups (map (operand_in tree) (take k m.receivers)))
 
 -- what is asked for, and why it isn't there
 abbrev pub asked_stop : Asked → Stop → AskedStop
@@ -169,10 +180,36 @@ each_ending (Err stop) storage = stopped_at stop storage
 abbrev pub plain_ending_of : {A : Type 0} → Result A MoveStop → List ℕ → Ending
 plain_ending_of answer storage = plain_ending (each_ending answer storage)
 
--- the single moves that were seen, where that is told, and then these
-abbrev pub append_singles : Option (List Single) → List Single → Option (List Single)
-append_singles seen more = option_map (λ ones. ones ++ more) seen
+-- ---- what a watcher keeps of them
 
--- what was seen grew by single moves that are so
-abbrev pub Sees : Option (List Single) → Option (List Single) → (List Single → Type 0) → Type 0
+-- the item that a sender of the code is; a constant is none
+abbrev pub item_sent : code.Sender → List SendingItem
+item_sent (code_sender.Entry side entry) = record { side = side; node = entry.node } ∷ []
+item_sent (code_sender.Constant value) = []
+
+-- an item that sent is counted where the single move is marked, and is the first of its sender
+abbrev pub counted_if : (mark is_first : Bool) → List SendingItem → List SendingItem
+counted_if false is_first items = []
+counted_if true false items = []
+counted_if true true items = items
+
+-- What is counted of single moves: the item of each sender once, at the first of its receivers that takes such a number.
+abbrev pub counted_of : List Single → List SendingItem
+counted_of [] = []
+counted_of (one ∷ ones) = counted_if one.by_any_zones one.is_first (item_sent one.sender) ++ counted_of ones
+
+-- the single moves that were seen, where that is told, and how many values were counted, where that is
+abbrev pub Kept : Type 0
+Kept = Option (List Single) × Option Counts
+
+-- how many values were counted, where that is told
+abbrev pub counts_kept : Kept → Option Counts
+counts_kept kept = kept.1
+
+-- what is kept, and then these single moves
+abbrev pub append_singles : Kept → List Single → Kept
+append_singles kept more = (option_map (λ ones. ones ++ more) kept.0, counts_behind kept.1 (counted_of more))
+
+-- what was kept grew by single moves that are so
+abbrev pub Sees : Kept → Kept → (List Single → Type 0) → Type 0
 Sees old new are = (ones : List Single) × (new ≡ append_singles old ones) × are ones

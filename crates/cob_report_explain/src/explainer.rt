@@ -53,7 +53,7 @@ pub struct ReadAgain<'a> {
 }
 
 /// Begins an output record of a conversion, whose copybook this text is: its storage holds its initial values.
-fn begin_output(
+pub(crate) fn begin_output(
     alloc: Global,
     text: &[u8],
     conversion: &Conversion,

@@ -1,6 +1,6 @@
 //! What a conversion does to a record, flow by flow, its single moves and its tests handed out.
 
-ghost use Rattle.std.specs.Prelude.{◌≡◌, ◌+◌, ◌<◌, ◌≤◌, ◌∷◌, ℕ, drop, length, slice_index_or, IfErr, IfOk, None, Some};
+ghost use Rattle.std.specs.Prelude.{◌≡◌, ◌+◌, ◌<◌, ◌≤◌, ◌∷◌, [], ℕ, drop, length, slice_index_or, IfErr, IfOk, Some};
 ghost use Rattle.std.specs.List.{slice_get};
 ghost use Rattle.cob_layout.specs.Storage.{greatest_length};
 ghost use Rattle.cob_move_apply.specs.Applied.{Applied};
@@ -14,12 +14,13 @@ ghost use Rattle.cob_move_deeds.specs.Tests.{BoundSays, Judged, past_bound};
 ghost use Rattle.cob_move_deeds.specs.declared.flow.Bound.{Bound};
 ghost use Rattle.cob_move_deeds.specs.declared.flow.Flow.TheVariants as flow;
 ghost use Rattle.cob_move_loops.specs.Turns.{turns_between};
-ghost use Rattle.cob_report_explain.specs.Flowing.{IsWalk, plain_answer, records_walked, walked_ending};
+ghost use Rattle.cob_report_explain.specs.Counted.{DeedsCount, MovesCount};
+ghost use Rattle.cob_report_explain.specs.Flowing.{CountsIfOk, CountsOnOk, FlowsCount, IsWalk, plain_answer, records_walked, walked_ending};
 ghost use Rattle.cob_report_explain.specs.Walked.{HasWalkRoom, plain_stop};
 
 use crate::conditions::condition_given;
 use crate::room::RecordLayouts;
-use crate::single::{CarriedMove, MoveStop, SingleNumber};
+use crate::single::{MoveStop, SingleNumber};
 use crate::tests::{TakenBound, TakenCondition, TakenTest};
 use crate::walk::{RecordStop, TestStop, WalkRoom};
 use crate::walking::each;
@@ -36,40 +37,12 @@ pub(crate) struct Walk<'a> {
     pub(crate) input: &'a [u8],
 }
 
-/// Who hands on what it is handed, the statements of single moves numbered among all.
-#[derive(Drop)]
-struct Renumbered<'a, W> {
-    watcher: &'a mut W,
-    /// How many statements stand before those that are carried out.
-    first: usize,
-}
-
-/// The same single move of a statement behind so many others.
+/// The number of the same single move of a statement behind so many others.
 fn behind_statements(number: SingleNumber, first: usize) -> SingleNumber {
     SingleNumber {
         statement: number.statement.saturating_add(first),
         pair: number.pair,
         receiver: number.receiver,
-    }
-}
-
-impl<W: Watcher> Watcher for Renumbered<'_, W> {
-    ghost seen = { λ renumbered. None };
-
-    fn see(&mut self, one: &CarriedMove<'_>) {
-        self.watcher.see(&CarriedMove {
-            number: behind_statements(one.number, self.first),
-            sender: one.sender,
-            given: one.given,
-            receiver: one.receiver,
-            place: one.place,
-            storage: one.storage,
-            by_any_zones: one.by_any_zones,
-        });
-    }
-
-    fn see_test(&mut self, one: &TakenTest<'_>) {
-        self.watcher.see_test(one);
     }
 }
 
@@ -105,18 +78,22 @@ fn walk_between<W: Watcher>(
     ensures applied { Applied (records_walked walk.now)
         (moves_between_marks (records_walked walk.now) walk.now.deeds.now.moves from to)
         walk.now.input.now output.old (walked_ending result output.new) }
+    ensures counts { CountsOnOk result (W.seen watcher.old) (W.seen watcher.new)
+        (MovesCount (records_walked walk.now)
+        (moves_between_marks (records_walked walk.now) walk.now.deeds.now.moves from to)
+        walk.now.input.now output.old output.new) }
     ensures room { HasWalkRoom (records_walked walk.now) room.new }
 {
     let first = walk.deeds.statements_before(from);
     let statements = walk.deeds.statements_between(from, to);
-    let mut renumbered = Renumbered { watcher, first };
+    watcher.begin(first);
     match each(
         &walk.layouts,
         statements,
         walk.input,
         output,
         &mut room.each,
-        &mut renumbered,
+        watcher,
     ) {
         Ok(()) => Ok(()),
         Err(at) => Err(RecordStop::AtMove(stop_behind(at, first))),
@@ -196,6 +173,10 @@ fn walk_turns<W: Watcher>(
     ensures carried { Carried (Judged (records_walked walk.now)) (records_walked walk.now)
         (loop_done (records_walked walk.now) (flow_support walk.now.deeds.now) (Some one.now))
         walk.now.input.now output.old (walked_ending result output.new) }
+    ensures counts { CountsOnOk result (W.seen watcher.old) (W.seen watcher.new)
+        (DeedsCount (Judged (records_walked walk.now)) (records_walked walk.now)
+        (loop_done (records_walked walk.now) (flow_support walk.now.deeds.now) (Some one.now))
+        walk.now.input.now output.old output.new) }
     ensures room { HasWalkRoom (records_walked walk.now) room.new }
 {
     one_outcome_of_counts();
@@ -263,6 +244,10 @@ fn take_branch<'f, W: Watcher>(
     ensures stops { IfErr result (λ stop. (lacking : ℕ) → StopsFlows (records_walked walk.now)
         (flow_support walk.now.deeds.now) (flow.Where condition holding lacking ∷ more.now)
         walk.now.input.now output.now (plain_stop stop) output.now) }
+    ensures counts { IfOk result (λ left. (lacking : ℕ) → FlowsCount (records_walked walk.now)
+        (flow_support walk.now.deeds.now) (flow.Where condition holding lacking ∷ more.now) left.now
+        walk.now.input.now output.now output.now []) }
+    ensures unseen { W.seen watcher.new ≡ W.seen watcher.old }
     ensures rest { IfOk result (λ left. (count : ℕ) × (left.now ≡ drop count more.now)) }
     ensures room { HasWalkRoom (records_walked walk.now) room.new }
 {
@@ -297,6 +282,9 @@ fn next<'f, W: Watcher>(
     ensures stops { IfErr result (λ stop. StopsFlows (records_walked walk.now)
         (flow_support walk.now.deeds.now) (flow.now ∷ more.now) walk.now.input.now output.old
         (plain_stop stop) output.new) }
+    ensures counts { CountsIfOk result (W.seen watcher.old) (W.seen watcher.new)
+        (λ left. FlowsCount (records_walked walk.now) (flow_support walk.now.deeds.now)
+        (flow.now ∷ more.now) left.now walk.now.input.now output.old output.new) }
     ensures rest { IfOk result (λ left. (count : ℕ) × (left.now ≡ drop count more.now)) }
     ensures room { HasWalkRoom (records_walked walk.now) room.new }
 {
@@ -357,6 +345,10 @@ pub(crate) fn walk_flows<W: Watcher>(
     ensures carried { Carried (Judged (records_walked walk.now)) (records_walked walk.now)
         (deeds_of (records_walked walk.now) walk.now.deeds.now) walk.now.input.now output.old
         (walked_ending result output.new) }
+    ensures counts { CountsOnOk result (W.seen watcher.old) (W.seen watcher.new)
+        (DeedsCount (Judged (records_walked walk.now)) (records_walked walk.now)
+        (deeds_of (records_walked walk.now) walk.now.deeds.now)
+        walk.now.input.now output.old output.new) }
     ensures room { HasWalkRoom (records_walked walk.now) room.new }
 {
     let mut rest = walk.deeds.flows();

@@ -1,6 +1,6 @@
 //! The receivers of a move, one after another.
 
-ghost use Rattle.std.specs.Prelude.{◌≡◌, [], ◌∷◌, length, map, IfErr, IfOk, OnErr, OnOk};
+ghost use Rattle.std.specs.Prelude.{◌≡◌, [], ◌∷◌, length, map, take, IfErr, IfOk, OnErr, OnOk};
 ghost use Rattle.std.specs.List.{AllByRecursion};
 ghost use Rattle.cob_layout.specs.Sound.{IsSound};
 ghost use Rattle.cob_layout.specs.Storage.{greatest_length};
@@ -8,7 +8,7 @@ ghost use Rattle.cob_layout.specs.Standing.{IsRoomFor};
 ghost use Rattle.cob_move_data.specs.Moves.{IsOperand, operand_in};
 ghost use Rattle.cob_move_receive.specs.Sent.{HasAllBytes, sent};
 ghost use Rattle.cob_move_apply.specs.Placed.{content_of};
-ghost use Rattle.cob_report_explain.specs.Each.{GetsAt, LacksFor, asked_stop, each_ending, single_stop};
+ghost use Rattle.cob_report_explain.specs.Each.{GetsAt, LacksFor, are_groups, asked_stop, each_ending, single_stop};
 ghost use Rattle.cob_move_apply.specs.Located.{stop_at};
 ghost use Rattle.cob_move_apply.specs.declared.stop.StopCause.TheVariants.{NoValue};
 ghost use Rattle.cob_report_explain.specs.Seen.{HandsOut, SeesSingles, StopsAtReceiver};
@@ -89,6 +89,26 @@ fn receive_one(
     }
 }
 
+/// Whether the first of some receivers, so many, are groups.
+fn are_groups(layout: &Layout, receivers: &[Ref], count: usize) -> bool
+    requires sound { IsSound layout.now }
+    requires receivers { AllByRecursion (IsOperand layout.now)
+        (map (operand_in layout.now) receivers.now) }
+    ensures { result ≡ are_groups (map (operand_in layout.now) (take count receivers.now)) }
+{
+    if count == 0 {
+        return true;
+    }
+    let Some((first, more)) = receivers.split_first() else {
+        return true;
+    };
+    if entry_kind(layout, first).is_group() {
+        are_groups(layout, more, count - 1)
+    } else {
+        false
+    }
+}
+
 /// Moves what a sender gives to the receiver with this number, and hands the single move out.
 ///
 /// # Errors
@@ -106,6 +126,8 @@ fn give_one<W: Watcher>(
 ) -> Result<(), MoveStop>
     requires sound { IsSound layout.now }
     requires given { HasAllBytes (sent given.now.sent) }
+    requires receivers { AllByRecursion (IsOperand layout.now)
+        (map (operand_in layout.now) parts.now.receivers.now) }
     requires operand { IsOperand layout.now (operand_in layout.now entry.now) }
     requires output { length output.old ≡ greatest_length layout.now }
     requires room { IsRoomFor layout.now counts.old }
@@ -131,6 +153,7 @@ fn give_one<W: Watcher>(
                 place,
                 storage: &*output,
                 by_any_zones: takes_anyhow(layout, entry, given),
+                is_first: are_groups(layout, parts.receivers, index),
             });
             Ok(())
         }

@@ -65,6 +65,8 @@
 
 mod anyhow;
 mod conditions;
+mod counting;
+mod counts;
 mod explainer;
 mod flows;
 mod giving;
@@ -84,6 +86,8 @@ mod watcher;
 
 pub use cob_move_apply::Given;
 pub use cob_report_faults::Qualifying;
+pub use counting::Counting;
+pub use counts::ZoneCounts;
 pub use explainer::{Explanation, ReadAgain, StoppedRecord, explain};
 pub use moves::{Silent, SingleText, Teller, Watching};
 pub use room::{EachRoom, RecordLayouts};

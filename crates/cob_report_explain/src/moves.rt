@@ -104,6 +104,8 @@ pub struct Watching<'a, T> {
     teller: &'a mut T,
     records: Qualifying<'a>,
     lines: &'a DeedLines,
+    /// How many statements stand before those whose single moves it is handed.
+    statements: usize,
 }
 
 impl<'a, T> Watching<'a, T> {
@@ -117,15 +119,21 @@ impl<'a, T> Watching<'a, T> {
             teller,
             records,
             lines,
+            statements: 0,
         }
     }
 }
 
 impl<T: Teller> Watcher for Watching<'_, T> {
-    ghost seen = { λ watching. None };
+    ghost seen = { λ watching. (None, None) };
+
+    fn begin(&mut self, statements: usize) {
+        self.statements = statements;
+    }
 
     fn see(&mut self, one: &CarriedMove<'_>) {
-        let line = line_at(&self.lines.statements, one.number.statement);
+        let statement = one.number.statement.saturating_add(self.statements);
+        let line = line_at(&self.lines.statements, statement);
         self.teller.tell(line, self.records, one);
     }
 

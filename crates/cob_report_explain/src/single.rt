@@ -71,6 +71,8 @@ pub struct CarriedMove<'a> {
     pub storage: &'a [u8],
     /// Whether its receiver, an item, took a number that was read by any zones, and which is none where zones are read strictly.
     pub by_any_zones: bool,
+    /// Whether no item stands before its receiver among those of its sender, so that it is the first to take a value.
+    pub is_first: bool,
 }
 
 /// The stop of a single move, for what isn't there.

@@ -9,7 +9,8 @@ ghost use Rattle.cob_convert_record.specs.Conversion.{out_length};
 ghost use Rattle.cob_convert_stream.specs.Output.{IsOutputOf};
 ghost use Rattle.cob_move_deeds.specs.Deeds.{Carried};
 ghost use Rattle.cob_move_deeds.specs.Tests.{Judged};
-ghost use Rattle.cob_report_explain.specs.Flowing.{walked_ending};
+ghost use Rattle.cob_report_explain.specs.Counted.{BecomesCounting, DeedsCount};
+ghost use Rattle.cob_report_explain.specs.Flowing.{CountsIfOk, CountsOnOk, walked_ending};
 ghost use Rattle.cob_report_explain.specs.Walked.{HasWalkRoom, plain_stop};
 
 use crate::flows::{Walk, walk_flows};
@@ -115,6 +116,9 @@ fn walk_deeds<W: Watcher>(
     requires room { HasWalkRoom conversion.now.records room.old }
     ensures carried { Carried (Judged conversion.now.records) conversion.now.records
         conversion.now.deeds input.now output.old (walked_ending result output.new) }
+    ensures counts { CountsOnOk result (W.seen watcher.old) (W.seen watcher.new)
+        (DeedsCount (Judged conversion.now.records) conversion.now.records conversion.now.deeds
+        input.now output.old output.new) }
     ensures room { HasWalkRoom conversion.now.records room.new }
 {
     let (input_layout, output_layout) = conversion.layouts();
@@ -175,6 +179,9 @@ pub fn walk_record<W: Watcher>(
     ensures converts { IfOk result
         (λ made. Becomes conversion.now input.now (take made output.new)) }
     ensures stops { IfErr result (λ stop. StopsAt conversion.now input.now (plain_stop stop)) }
+    // The watcher counts what `BecomesCounting` says, where the record is made.
+    ensures counts { CountsIfOk result (W.seen watcher.old) (W.seen watcher.new)
+        (λ made. BecomesCounting conversion.now input.now (take made output.new)) }
     ensures room { HasWalkRoom conversion.now.records room.new }
 {
     match walk_deeds(conversion, input, output, room, watcher) {
