@@ -39,11 +39,11 @@ use Rattle.cob_report_explain.specs.Each.{AreOfMove, AreOfMoves, AreSentBy, AreS
 
 -- ---- what was seen
 
-counts_twice : (a b : List SendingItem) (c : Counts) → count_items (count_items c a) b ≡ count_items c (a ++ b)
+pub counts_twice : (a b : List SendingItem) (c : Counts) → count_items (count_items c a) b ≡ count_items c (a ++ b)
 counts_twice [] b c = refl
 counts_twice (i ∷ is) b c = counts_twice is b (one_more_of i.side i.node c)
 
-counted_append : (a b : List Single) → counted_of (a ++ b) ≡ counted_of a ++ counted_of b
+pub counted_append : (a b : List Single) → counted_of (a ++ b) ≡ counted_of a ++ counted_of b
 counted_append [] b = refl
 counted_append (one ∷ ones) b =
     let own : List SendingItem = counted_if one.by_any_zones one.is_first (item_sent one.sender) in

@@ -26,7 +26,7 @@ gets_none t content q before lack (inl (stop, at, is)) =
     subst (λ (l : AskedStop). Gets t content (operand_in t q) before (Err l.stop)) (sym is) (inl at)
 gets_none t content q before lack (inr (p, at, received, is)) = inr (p, at, received, ap (λ (l : AskedStop). l.stop) is)
 
-all_get : (t : Forest Resolved) (m : NumberedMove) (content : Content) (k : ℕ) (qs : List Ref) (before : List ℕ) (ones : List Single) (end : EachEnding)
+pub all_get : (t : Forest Resolved) (m : NumberedMove) (content : Content) (k : ℕ) (qs : List Ref) (before : List ℕ) (ones : List Single) (end : EachEnding)
     → AreSingles t m content k qs before ones end → AllGet t content (map (operand_in t) qs) before (plain_ending end)
 all_get t m content k [] before ones end (none, is) = ap plain_ending is
 all_get t m content k (q ∷ qs) before [] end (lack, lacks, is) = inr (lack.stop, gets_none t content q before lack lacks, ap plain_ending is)
@@ -56,7 +56,7 @@ statement_meant : (x : Reading) (r : Records) (n : ℕ) (s : StatementMoves) →
 statement_meant x r n (SingleMoves m) = refl
 statement_meant x r n (Pairs g) = pairs_meant x r n g 0 g.pairs.items
 
-all_meant : (x : Reading) (r : Records) (n : ℕ) (ss : List StatementMoves) → map (move_meant x r) (numbered_moves n ss) ≡ moves_by x r ss
+pub all_meant : (x : Reading) (r : Records) (n : ℕ) (ss : List StatementMoves) → map (move_meant x r) (numbered_moves n ss) ≡ moves_by x r ss
 all_meant x r n [] = refl
 all_meant x r n (s ∷ ss) =
     map-append (move_meant x r) (numbered_of_statement n s) (numbered_moves (n + 1) ss)

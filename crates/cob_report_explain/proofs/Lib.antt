@@ -1,6 +1,8 @@
 pub mod AnyhowLemmas
 pub mod EachLemmas
 pub mod LawLemmas
+pub mod CountedLemmas
+pub mod CountingLemmas
 pub mod WalkLemmas
 pub mod ReadLemmas
 pub mod FlowingLemmas

@@ -1,5 +1,5 @@
 -- What is done to a record, its single moves handed out, makes of it what a run makes.
-use Rattle.std.proofs.Common.{◌≡◌, ℕ, List, sym, subst, inl, inr}
+use Rattle.std.proofs.Common.{◌≡◌, Result, ℕ, List, sym, subst, inl, inr}
 use Rattle.cob_layout.specs.Storage.{IsStorage, greatest_length}
 use Rattle.cob_move_data.specs.Moves.{Records}
 use Rattle.cob_move_apply.specs.declared.stop.Stop.{Stop}
@@ -8,6 +8,9 @@ use Rattle.cob_move_deeds.specs.Deeds.{Carried, Deeds}
 use Rattle.cob_move_deeds.specs.Prepared.{AreDeedsPrepared, deeds_of}
 use Rattle.cob_move_deeds.specs.Tests.{Judged, Test}
 use Rattle.cob_move_deeds.specs.declared.ready.ReadyDeeds.{ReadyDeeds}
+use Rattle.cob_report_explain.specs.Counted.{DeedsCount}
+use Rattle.cob_report_explain.specs.Each.{Kept}
+use Rattle.cob_report_explain.specs.Flowing.{CountsOnOk}
 use Rattle.cob_report_explain.specs.Walked.{HasWalkRoom}
 use Rattle.cob_report_explain.specs.declared.walk.WalkRoom.{WalkRoom}
 use Rattle.cob_move_initial.specs.Initial.{IsInitial}
@@ -43,3 +46,9 @@ stops_at_move c input before last stop begins carried = record { initial = befor
 pub stops_behind : (c : Conversion) (input before last : List ℕ) (stop : Stop) → IsInitial c.records.output before → Carried (Judged c.records) c.records c.deeds input before (done last)
     → IsCountStop c.records.output last stop → StopsAt c input stop
 stops_behind c input before last stop begins carried faulty = record { initial = before; begins = begins; last = last; stops = inr (carried, faulty) }
+
+pub counts_so : {A E : Type 0} (answer : Result A E) (old new : Kept) (cr r : Records) (ready : ReadyDeeds) (d : Deeds Test) (input before after : List ℕ) → cr ≡ r → deeds_of cr ready ≡ d
+    → CountsOnOk answer old new (DeedsCount (Judged r) r (deeds_of r ready) input before after) → CountsOnOk answer old new (DeedsCount (Judged cr) cr d input before after)
+counts_so answer old new cr r ready d input before after same are h =
+    subst (λ (e : Deeds Test). CountsOnOk answer old new (DeedsCount (Judged cr) cr e input before after)) are
+    (subst (λ (q : Records). CountsOnOk answer old new (DeedsCount (Judged q) q (deeds_of q ready) input before after)) (sym same) h)

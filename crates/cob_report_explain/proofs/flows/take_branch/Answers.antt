@@ -9,6 +9,7 @@ use Rattle.cob_move_deeds.specs.Tests.{Holds, Judged}
 use Rattle.cob_move_deeds.proofs.FlowLemmas.{condition_stops, holds_leaves, lacks_leaves}
 use Rattle.cob_report_explain.specs.Flowing.{records_walked}
 use Rattle.cob_report_explain.specs.Walked.{plain_stop}
+use Rattle.cob_report_explain.proofs.CountingLemmas.{holds_flow, lacks_flow}
 use Rattle.cob_report_explain.proofs.flows.take_branch.Goals as goal
 
 pub condition_given-requires-clause-within : goal.condition_given-requires-clause-within
@@ -40,3 +41,19 @@ returns-clause-leaves g c = λ lacking.
     let (k, at) = c.requires.there in
     let says = subst (λ (b : Bool). Judged r (Holds (condition_of (sender_at r on) k)) c.args.walk.now.input.now c.args.output.now (Ok b)) c.if-holds.false (c.in_ok-holds.ensures.says k at) in
     lacks_leaves r on c.args.condition c.args.holding lacking c.args.more.now c.behind_skip.result.now k c.args.walk.now.input.now c.args.output.now at says c.behind_skip.ensures.value
+
+pub returns-then-holds-clause-counts : goal.returns-then-holds-clause-counts
+returns-then-holds-clause-counts g c = λ lacking.
+    let r : Records = records_walked c.args.walk.now in
+    let on : FlowSupport = flow_support c.args.walk.now.deeds.now in
+    let (k, at) = c.requires.there in
+    let says = subst (λ (b : Bool). Judged r (Holds (condition_of (sender_at r on) k)) c.args.walk.now.input.now c.args.output.now (Ok b)) c.if-holds.true (c.in_ok-holds.ensures.says k at) in
+    holds_flow r on c.args.condition c.args.holding lacking c.args.more.now k c.args.walk.now.input.now c.args.output.now at says
+
+pub returns-clause-counts : goal.returns-clause-counts
+returns-clause-counts g c = λ lacking.
+    let r : Records = records_walked c.args.walk.now in
+    let on : FlowSupport = flow_support c.args.walk.now.deeds.now in
+    let (k, at) = c.requires.there in
+    let says = subst (λ (b : Bool). Judged r (Holds (condition_of (sender_at r on) k)) c.args.walk.now.input.now c.args.output.now (Ok b)) c.if-holds.false (c.in_ok-holds.ensures.says k at) in
+    lacks_flow r on c.args.condition c.args.holding lacking c.args.more.now c.behind_skip.result.now k c.args.walk.now.input.now c.args.output.now at says c.behind_skip.ensures.value

@@ -16,3 +16,27 @@ returns-in-Err-written_part-clause-stops g c = record {
   last = c.walk_deeds.new.output;
   stops = inr (c.in-Ok.ensures.carried, c.in-Err-written_part.ensures.stops);
 }
+
+pub returns-in-Err-clause-counts : goal.returns-in-Err-clause-counts
+returns-in-Err-clause-counts g c =
+    let (items, grown, none) = rw c.in-Err.is at c.walk_deeds.ensures.counts in
+    (items, grown, tt)
+
+pub returns-in-Err-written_part-clause-counts : goal.returns-in-Err-written_part-clause-counts
+returns-in-Err-written_part-clause-counts g c =
+    let (items, grown, made) = c.walk_deeds.ensures.counts in
+    (items, grown, tt)
+
+pub returns-in-Ok-written_part-clause-counts : goal.returns-in-Ok-written_part-clause-counts
+returns-in-Ok-written_part-clause-counts g c =
+    let (items, grown, made) = rw c.in-Ok.is at c.walk_deeds.ensures.counts in (
+      items,
+      grown,
+      record {
+        initial = c.args.output.now;
+        begins = c.requires.begins;
+        last = c.walk_deeds.new.output;
+        carried = made;
+        writes = c.in-Ok-written_part.ensures.written;
+      },
+    )
