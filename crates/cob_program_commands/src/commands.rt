@@ -26,7 +26,7 @@ use cob_program_line::{
 use cob_program_list::{do_layout, do_pieces, do_show};
 use cob_program_manual::{do_completion, do_manual};
 use cob_program_map::do_map;
-use cob_program_report::{Reported, do_convert_reported};
+use cob_program_report::{Reported, do_convert_reported, do_convert_tallied};
 use cob_program_runtime::{NamedFile, Noted};
 use cob_program_texts::{do_check, do_cover, do_draft, do_lossless};
 use cob_program_words::meant_words;
@@ -77,6 +77,7 @@ fn do_asked_conversion<R: AllocGlobal + Files + Input + Print + Eprint + Clock>(
     ensures { EndsAsked line.now.report line.now.rejects line.now.atomic result }
 {
     match line.report {
+        None if line.tally => do_convert_tallied(rt, line, explain),
         None => do_plain_conversion(rt, line, explain),
         Some(path) => do_convert_reported(
             rt,

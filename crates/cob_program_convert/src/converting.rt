@@ -20,7 +20,7 @@ use std::io::{Eprint, Input, Print, Printer};
 use std::rt::{Clock, Files};
 
 /// What a run comes to whose output is this; or is its part, which is put in its place where the run is done.
-fn placed_run<'a, R: AllocGlobal + Files + Print>(
+pub(crate) fn placed_run<'a, R: AllocGlobal + Files + Print>(
     rt: &'a R,
     atomic: bool,
     outcome: Result<u64, CommandFault>,
@@ -39,7 +39,7 @@ fn placed_run<'a, R: AllocGlobal + Files + Print>(
 }
 
 /// The part that stands in for the output, where one does.
-fn part_of<'a>(line: &ConvertLine<'_>, part: &'a str) -> Option<&'a str>
+pub(crate) fn part_of<'a>(line: &ConvertLine<'_>, part: &'a str) -> Option<&'a str>
     ensures { option_map (λ name. name.now) result ≡ part_by line.now.atomic part.now }
 {
     if line.atomic { Some(part) } else { None }
@@ -107,7 +107,7 @@ pub fn convert_plain_by<R: AllocGlobal + Files + Input + Print + Eprint + Clock>
 }
 
 /// What so many converted records come to, which were all that came.
-fn all_converted(outcome: Result<u64, CommandFault>) -> Result<CommandDone, CommandFault>
+pub(crate) fn all_converted(outcome: Result<u64, CommandFault>) -> Result<CommandDone, CommandFault>
     ensures faults { (atomic : Bool) → IfErr outcome (MayEndConvert atomic)
         → IfErr result (MayEndConvert atomic) }
     ensures all { IfOk result (λ done. status_of_done done ≡ status.Done) }

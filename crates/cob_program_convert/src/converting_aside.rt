@@ -23,7 +23,7 @@ use std::io::{Eprint, Input, Print};
 use std::rt::{Clock, Files};
 
 /// What a run comes to, where the fault lines of the rejected records were all printed, or were not.
-fn told_run(
+pub(crate) fn told_run(
     outcome: Result<Tally, CommandFault>,
     are_printed: bool,
 ) -> Result<CommandDone, CommandFault>
@@ -42,7 +42,7 @@ fn told_run(
 }
 
 /// How a command line wants a run done.
-fn how_of<R: Files>(rt: &R, line: &ConvertLine<'_>) -> How
+pub(crate) fn how_of<R: Files>(rt: &R, line: &ConvertLine<'_>) -> How
     ensures form { result.form ≡ line.now.forms.input }
     ensures most { result.most ≡ most_of line.now.most_rejects }
 {
@@ -54,7 +54,7 @@ fn how_of<R: Files>(rt: &R, line: &ConvertLine<'_>) -> How
 }
 
 /// The end that tells of the rejected records of such a run, a watcher too.
-fn rejections_of<'a, R, W>(
+pub(crate) fn rejections_of<'a, R, W>(
     rt: &'a R,
     line: &ConvertLine<'_>,
     how: How,
@@ -73,7 +73,10 @@ fn rejections_of<'a, R, W>(
 }
 
 /// The parts that stand in for both outputs, where some do.
-fn parts_of<'a>(line: &ConvertLine<'_>, parts: OutputNames<'a>) -> Option<OutputNames<'a>>
+pub(crate) fn parts_of<'a>(
+    line: &ConvertLine<'_>,
+    parts: OutputNames<'a>,
+) -> Option<OutputNames<'a>>
     ensures { result ≡ part_by line.now.atomic parts.entry }
 {
     if line.atomic { Some(parts) } else { None }

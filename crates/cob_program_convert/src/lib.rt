@@ -29,8 +29,10 @@
 
 mod converting;
 mod converting_aside;
+mod counting;
 mod told;
 
 pub use converting::{convert, convert_plain_by, do_convert};
 pub use converting_aside::{convert_aside, convert_aside_by, do_convert_aside};
+pub use counting::{Counted, convert_counting};
 pub use told::tell_converted;

@@ -68,6 +68,7 @@ pub record IsConvert (look : Look) (line : ConvertLine) : Type 0 where
   pub lrecl : NamesLrecl look line.lrecl
   pub atomic : is_flagged (codes "atomic") look ≡ line.atomic
   pub progress : is_flagged (codes "progress") look ≡ line.progress
+  pub tally : is_flagged (codes "tally") look ≡ line.tally
   pub piece : NamePiece look line.from line.bytes line.first
   pub choice : NameChoice look line.skip line.records
   pub rejects : look (codes "rejects") ≡ option_map (λ file. file.now) line.rejects

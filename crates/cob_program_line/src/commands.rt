@@ -74,6 +74,7 @@ pub fn convert_line<'a>(options: &ArgMatches<'a>) -> Result<ConvertLine<'a>, Lin
         lrecl,
         atomic: flag(options, "atomic"),
         progress: flag(options, "progress"),
+        tally: flag(options, "tally"),
         from: piece.from,
         bytes: piece.bytes,
         first: piece.first,

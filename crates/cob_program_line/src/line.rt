@@ -234,6 +234,8 @@ pub struct ConvertLine<'a> {
     pub atomic: bool,
     /// Whether it tells on standard error how far it is.
     pub progress: bool,
+    /// Whether it tells how many values were read by any zones that strict zones refuse.
+    pub tally: bool,
     /// How many bytes of the input stand before those that are converted.
     pub from: u64,
     /// How many bytes of the input are converted, where they are not all that are left.

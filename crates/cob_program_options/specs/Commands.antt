@@ -72,7 +72,7 @@ shared_options = (codes "explain", Alone) ∷ help_options
 
 -- the options of `convert`
 abbrev pub convert_options : Options
-convert_options = texts_options ++ ends_options ++ forms_options ++ lrecl_options ++ ((codes "atomic", Alone) ∷ (codes "progress", Alone) ∷ [])
+convert_options = texts_options ++ ends_options ++ forms_options ++ lrecl_options ++ ((codes "atomic", Alone) ∷ (codes "progress", Alone) ∷ (codes "tally", Alone) ∷ [])
     ++ piece_options ++ choice_options ++ rejects_options ++ report_options ++ books_handing ++ shared_options
 
 -- the options of `check`

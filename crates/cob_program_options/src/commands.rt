@@ -13,6 +13,7 @@ use crate::options::{
     ATOMIC, BOOK, BOOKS, BOTH_RECORDS, BOTH_WAYS, CHOICE, COMPARED, COMPARISON, COPIES, COVER, CUT,
     ENDS, EXPLAINED_RECORDS, FORM, FORMS, LISTING, LRECL, MAPPED_RECORDS, MOVES, ONE_RECORD, PIECE,
     PIECES, PREFIXES, PROGRESS, RECORD, REJECTS, REPORT, SHARED, SHARED_LIST, SHARED_RUN, SHOWN,
+    TALLY,
 };
 use clap::Command;
 use std::alloc::{AllocError, Global};
@@ -138,6 +139,7 @@ const COMMANDS: [CommandDefinition<'static>; 10] = [
             &LRECL,
             &ATOMIC,
             &PROGRESS,
+            &TALLY,
             &PIECE,
             &CHOICE,
             &REJECTS,

@@ -31,6 +31,10 @@ pub(crate) const ATOMIC_HELP: &str = "Write OUT.part first, and rename it when a
 
 pub(crate) const PROGRESS_HELP: &str = "Tell on standard error how far it is";
 
+// What `--tally` does.
+pub(crate) const TALLY_HELP: &str =
+    "With --zones any, say behind done how many values were read\nso that strict zones refuse, by their items";
+
 // What `--report` names.
 pub(crate) const REPORT_HELP: &str =
     "Write there what the run came to, for an audit: sums of\nthe texts, files, counts; as JSON where FILE ends in .json";

@@ -5,7 +5,7 @@ use crate::help::{
     ATOMIC_HELP, BINARY_HELP, COPY_DIR_HELP, EXPLAINED_HELP, EXPLAINED_LIST_HELP,
     EXPLAINED_RUN_HELP, FORM_HELP, FREE_HELP, IGNORE_HELP, KEY_HELP, LISTING_HELP, LRECL_HELP,
     MEASURE_HELP, PROGRESS_HELP, RECORDS_AS_HELP, REPLACE_HELP, REPORT_HELP, STRICT_HELP,
-    STRIP_PREFIX_HELP, TABS_HELP, ZONES_HELP,
+    STRIP_PREFIX_HELP, TABS_HELP, TALLY_HELP, ZONES_HELP,
 };
 
 // How an option stands for a form, which is f where it is not there, and for the greatest size of blocks.
@@ -101,6 +101,13 @@ pub(crate) const PROGRESS: [OptionDefinition<'static>; 1] = [OptionDefinition {
     name: "progress",
     standing: Standing::Alone,
     help: PROGRESS_HELP,
+}];
+
+// What was read by any zones.
+pub(crate) const TALLY: [OptionDefinition<'static>; 1] = [OptionDefinition {
+    name: "tally",
+    standing: Standing::Alone,
+    help: TALLY_HELP,
 }];
 
 // A piece of the input.

@@ -1,12 +1,10 @@
 -- How a conversion ends that is reported.
-use Rattle.std.specs.Prelude.{◌≡◌, ◌⊎◌, Bool, IfErr, IfOk, Option, None, Some, Result}
+use Rattle.std.specs.Prelude.{◌⊎◌, Bool, Option, None, Some}
 use Rattle.cob_convert.specs.declared.status.Status.{Status}
 use Rattle.cob_convert.specs.declared.status.Status.TheVariants as status
-use Rattle.cob_program_faults.specs.Done.{status_of_done}
 use Rattle.cob_program_faults.specs.Ends.{EndsAmong, EndsAs, EndsAside}
-use Rattle.cob_program_faults.specs.declared.done.CommandDone.{CommandDone}
-use Rattle.cob_program_faults.specs.declared.fault.CommandFault.{CommandFault}
 use Rattle.cob_program_convert.specs.Ends.{MayEndAside, MayEndConvert}
+pub use Rattle.cob_program_convert.specs.Ends.{CameTo}
 use Rattle.cob_program_report.specs.declared.made.ReportFault.{ReportFault}
 use Rattle.cob_program_report.specs.declared.made.ReportFault.TheVariants as fault
 
@@ -29,8 +27,3 @@ LacksReport end = (why : ReportFault) × EndsAs (status_of_report why) end
 -- A conversion that is reported ends as it ends without a report, or as one whose report is at fault.
 abbrev pub EndsReported : Type 0 → Status → Type 0
 EndsReported plain end = plain ⊎ LacksReport end
-
--- what a conversion may come to, by whether rejected records are set aside: it has its faults alone, and sets none aside where it has no file for them
-abbrev pub CameTo : {A : Type 0} → Option A → Bool → Result CommandDone CommandFault → Type 0
-CameTo None atomic outcome = IfErr outcome (MayEndConvert atomic) × IfOk outcome (λ done. status_of_done done ≡ status.Done)
-CameTo (Some rejects) atomic outcome = IfErr outcome (MayEndAside atomic)

@@ -61,7 +61,7 @@ fn tell_unreported<R: Eprint>(rt: &R, fault: ReportFault) -> Status
 }
 
 /// Prints what a conversion comes to, and behind a stop why where that is asked for, and answers how it ends.
-fn tell<R: AllocGlobal + Files + Input + Print + Eprint>(
+pub(crate) fn tell<R: AllocGlobal + Files + Input + Print + Eprint>(
     rt: &R,
     line: &ConvertLine<'_>,
     explain: bool,
@@ -119,7 +119,7 @@ fn run<R: AllocGlobal + Files + Input + Print + Eprint + Clock>(
 }
 
 /// Whether one of the outputs of a conversion goes to standard output.
-fn is_beside<R: Files>(rt: &R, line: &ConvertLine<'_>) -> bool {
+pub(crate) fn is_beside<R: Files>(rt: &R, line: &ConvertLine<'_>) -> bool {
     match line.rejects {
         None => is_standard_output(rt, line.output),
         Some(rejects) => is_standard_output(rt, line.output) || is_standard_output(rt, rejects),

@@ -16,8 +16,10 @@
 
 mod command;
 mod made;
+mod tallied;
 mod texts;
 mod told;
 
 pub use command::do_convert_reported;
+pub use tallied::do_convert_tallied;
 pub use told::Reported;

@@ -1,6 +1,8 @@
 //! The texts of a conversion, as they are read.
 
 ghost use Rattle.std.specs.Prelude.{IfErr, IfOk};
+ghost use Rattle.cob_copybook.specs.Books.{IsBookOf};
+ghost use Rattle.cob_copybook.specs.declared.role.Role.TheVariants.{Out};
 ghost use Rattle.cob_convert_record.specs.Conversion.{in_length};
 ghost use Rattle.cob_program_faults.specs.Lengths.{FitsLrecl};
 ghost use Rattle.cob_program_faults.specs.Texts.{LacksConversion, LacksText};
@@ -89,6 +91,8 @@ pub(crate) fn converter_of(
 ) -> Result<Converter, CommandFault>
     requires in_block { HasBlockSize line.now.forms.input }
     requires out_block { HasBlockSize line.now.forms.output }
+    ensures book { IfOk result
+        (λ made. IsBookOf Out texts.now.out_book.text.items made.records.output) }
     ensures fits { IfOk result
         (λ made. FitsLrecl line.now.forms.input line.now.lrecl (in_length made)) }
     ensures lacks { IfErr result LacksConversion }

@@ -29,6 +29,7 @@
 //! `run_over_incoming`).
 #![tactic(auto)]
 
+mod counting;
 mod incoming;
 mod lacking;
 mod marks;
@@ -37,8 +38,11 @@ mod rejections;
 mod run;
 mod running;
 mod running_aside;
+mod running_counting;
 
+pub use counting::CountingConverter;
 pub use marks::Marks;
 pub use rejections::{RejectionWatcher, Rejections, Unwatched};
 pub use running::{Ending, placed, run_to_end};
 pub use running_aside::{AsideEnding, How, PlacesFault, placed_run, run_aside_to_end};
+pub use running_counting::{run_counting_aside_to_end, run_counting_to_end};

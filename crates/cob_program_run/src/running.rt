@@ -26,6 +26,13 @@ pub struct Ending {
 }
 
 impl Ending {
+    /// That of a run with this answer, whose last bytes were handed to the device so.
+    pub(crate) fn new(answer: Result<u64, RunFault>, flushed: Result<(), DeviceFault>) -> Ending
+        ensures { result.answer ≡ answer }
+    {
+        Ending { answer, flushed }
+    }
+
     /// What a run comes to behind its last flush.
     ///
     /// # Errors

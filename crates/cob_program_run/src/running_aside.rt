@@ -33,6 +33,23 @@ pub struct AsideEnding {
 }
 
 impl AsideEnding {
+    /// That of a run with this answer and these rejected records, whose last bytes were handed to their devices so.
+    pub(crate) fn new(
+        answer: Result<Tally, AsideFault>,
+        marks: Marks,
+        flushed: Result<(), DeviceFault>,
+        aside_flushed: Result<(), DeviceFault>,
+    ) -> AsideEnding
+        ensures { result.answer ≡ answer }
+    {
+        AsideEnding {
+            answer,
+            marks,
+            flushed,
+            aside_flushed,
+        }
+    }
+
     /// What a run comes to behind its last flush.
     ///
     /// # Errors
