@@ -3,7 +3,7 @@ use Rattle.std.proofs.Common.{◌≡◌, inl, inr, ℕ, ◌<◌, Bool, true, fal
 use Rattle.cob_source.specs.Tokens.{Lexeme}
 use Rattle.cob_move_loops.specs.declared.parts.Place.{Place}
 use Rattle.cob_move_loops.specs.Bounded.{AreBounded, BoundedFront, LacksBound, LacksBoundFront, has_subscript, subscript_front}
-use Rattle.cob_move_loops.specs.Passages.{APause, ARun, Branched, Chosen, FrontAt, IsPassageAt, Looped, Passage, PassageFront}
+use Rattle.cob_move_loops.specs.Passages.{APause, ARun, Branched, Chosen, FrontAt, IsPassageAt, Looped, Passage, PassageFront, Worded}
 use Rattle.cob_move_loops.specs.Reading.{Within}
 use Rattle.cob_move_loops.proofs.PassageLemmas.{IsOnlyFront, Parted, joined, nothing_left, parted}
 
@@ -12,6 +12,7 @@ use Rattle.cob_move_loops.proofs.PassageLemmas.{IsOnlyFront, Parted, joined, not
 subscript_joined : (name : List ℕ) (f : PassageFront) (body more : Passage) → has_subscript name (joined f body more) ≡ (subscript_front name f body || has_subscript name more)
 subscript_joined name (ARun own) body more = refl
 subscript_joined name APause body more = refl
+subscript_joined name (Worded line v own) body more = refl
 subscript_joined name (Looped l own) body more = refl
 subscript_joined name (Chosen c own) body more = refl
 subscript_joined name (Branched t own) body more = refl
@@ -58,6 +59,7 @@ search_end at name words rest left none p is =
 bounded_joined : (f : PassageFront) (body more : Passage) → BoundedFront f body → AreBounded more → AreBounded (joined f body more)
 bounded_joined (ARun own) body more front others = others
 bounded_joined APause body more front others = others
+bounded_joined (Worded line v own) body more front others = others
 bounded_joined (Looped l own) body more front others = (front.0, front.1, others)
 bounded_joined (Chosen c own) body more front others = (front, others)
 bounded_joined (Branched t own) body more front others = (front, others)
@@ -65,6 +67,7 @@ bounded_joined (Branched t own) body more front others = (front, others)
 lacks_front : (f : PassageFront) (body more : Passage) (line : ℕ) → LacksBoundFront f body line → LacksBound (joined f body more) line
 lacks_front (ARun own) body more line lacks = absurd lacks
 lacks_front APause body more line lacks = absurd lacks
+lacks_front (Worded verb_line v own) body more line lacks = absurd lacks
 lacks_front (Looped l own) body more line (inl here) = inl here
 lacks_front (Looped l own) body more line (inr inner) = inr (inl inner)
 lacks_front (Chosen c own) body more line lacks = inl lacks
@@ -73,6 +76,7 @@ lacks_front (Branched t own) body more line lacks = inl lacks
 lacks_behind : (f : PassageFront) (body more : Passage) (line : ℕ) → LacksBound more line → LacksBound (joined f body more) line
 lacks_behind (ARun own) body more line lacks = lacks
 lacks_behind APause body more line lacks = lacks
+lacks_behind (Worded verb_line v own) body more line lacks = lacks
 lacks_behind (Looped l own) body more line lacks = inr (inr lacks)
 lacks_behind (Chosen c own) body more line lacks = inr lacks
 lacks_behind (Branched t own) body more line lacks = inr lacks

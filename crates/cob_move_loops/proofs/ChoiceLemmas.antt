@@ -30,6 +30,8 @@ loop_closes (Some mark.EndPerform) e = refl
 loop_closes (Some mark.Continue) e = absurd (let never : None ≡ Some edge.Closes = e in cc)
 loop_closes (Some mark.If) e = absurd (let never : None ≡ Some edge.Closes = e in cc)
 loop_closes (Some mark.Evaluate) e = absurd (let never : None ≡ Some edge.Closes = e in cc)
+loop_closes (Some mark.Set) e = absurd (let never : None ≡ Some edge.Closes = e in cc)
+loop_closes (Some mark.Initialize) e = absurd (let never : None ≡ Some edge.Closes = e in cc)
 
 pub closes_loop : (w : Lexeme) → IsPassageWord mark.EndPerform w → edge_of pair.Loop w ≡ Some edge.Closes
 closes_loop w is = ap loop_edge is

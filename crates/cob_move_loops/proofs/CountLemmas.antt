@@ -10,7 +10,7 @@ use Rattle.cob_move_loops.specs.declared.parts.Place.{Place}
 use Rattle.cob_move_loops.specs.declared.parts.Place.TheVariants as place
 use Rattle.cob_move_loops.specs.Few.{begins_choice, choice_line, choices_by, deepest, looped_of, opening_line, opens, statements_by, statements_in, statements_of}
 use Rattle.cob_limits.specs.Limits.{most_open}
-use Rattle.cob_move_loops.specs.Passages.{ABranch, AChoice, ALoop, ARun, APause, Branched, Chosen, FrontAt, IsPassageAt, IsRun, Looped, Moves, NoMore, Passage, PassageFront, Pause, edge_of, open_by}
+use Rattle.cob_move_loops.specs.Passages.{ABranch, AChoice, ALoop, ARun, APause, Branched, Chosen, FrontAt, IsPassageAt, IsRun, Looped, Moves, NoMore, Passage, PassageFront, Pause, edge_of, open_by, AVerb, Worded}
 use Rattle.cob_move_loops.specs.Reading.{Within, looped_front, statements_front}
 use Rattle.cob_move_loops.specs.Turns.{Counted, counter_at, turns, turns_of, words_by_turn}
 use Rattle.cob_move_loops.specs.Words.{passage_word}
@@ -27,6 +27,7 @@ zero_plus n = omega arith
 statements_joined : (f : PassageFront) (body more : Passage) → statements_of (joined f body more) ≡ statements_front f body + statements_of more
 statements_joined (ARun own) body more = refl
 statements_joined APause body more = zero_plus (statements_of more)
+statements_joined (Worded line v own) body more = refl
 statements_joined (Looped l own) body more = refl
 statements_joined (Chosen c own) body more = refl
 statements_joined (Branched t own) body more = refl
@@ -34,6 +35,7 @@ statements_joined (Branched t own) body more = refl
 looped_joined : (f : PassageFront) (body more : Passage) → looped_of (joined f body more) ≡ looped_front f body + looped_of more
 looped_joined (ARun own) body more = zero_plus (looped_of more)
 looped_joined APause body more = zero_plus (looped_of more)
+looped_joined (Worded line v own) body more = zero_plus (looped_of more)
 looped_joined (Looped l own) body more = refl
 looped_joined (Chosen c own) body more = refl
 looped_joined (Branched t own) body more = refl
@@ -120,6 +122,7 @@ pub nothing_written : (at : Place) (ns : List Counted) (p : Passage) (ws : List 
 nothing_written at ns NoMore ws is none = refl
 nothing_written place.Statements ns (Moves own more) ws (rest, run, first, e, is) none = absurd (omega (arith, run_counts own run, none))
 nothing_written place.Statements ns (Pause more) ws (pause, stops, rest, word, are, e, is) none = nothing_written place.Statements ns more rest is none
+nothing_written place.Statements ns (AVerb line v own more) ws is none = absurd (omega (arith, none))
 nothing_written place.Statements ns (ALoop l body more) ws (head, own, stops, rest, end, h, b, inner, word, are, e, is) none =
     let behind : statements_of more ≡ 0 = omega (arith, none) in
     let loop_none : turns_of l * statements_of body ≡ 0 = omega (arith, none) in
@@ -131,6 +134,7 @@ nothing_written place.Statements ns (AChoice c branches more) ws is none = absur
 nothing_written place.Statements ns (ABranch t own more) ws is none = absurd is
 nothing_written (place.Branches k) ns (Moves own more) ws is none = absurd is
 nothing_written (place.Branches k) ns (Pause more) ws is none = absurd is
+nothing_written (place.Branches k) ns (AVerb line v own more) ws is none = absurd is
 nothing_written (place.Branches k) ns (ALoop l body more) ws is none = absurd is
 nothing_written (place.Branches k) ns (AChoice c branches more) ws is none = absurd is
 nothing_written (place.Branches k) ns (ABranch t body more) ws (head, own, rest, h, b, inner, e, is) none =

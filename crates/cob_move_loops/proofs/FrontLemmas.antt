@@ -11,7 +11,7 @@ use Rattle.cob_move_loops.specs.declared.parts.Place.{Place}
 use Rattle.cob_move_loops.specs.declared.parts.Place.TheVariants as place
 use Rattle.cob_move_loops.specs.Reading.{ClosedInFront, PartedInFront}
 use Rattle.cob_move_loops.specs.Words.{IsOther, IsPeriod, NoPeriod}
-use Rattle.cob_move_loops.specs.Passages.{APause, ARun, Branched, Chosen, FrontAt, Looped, PartFirst, PassageFront, edge_of, open_behind, open_by}
+use Rattle.cob_move_loops.specs.Passages.{APause, ARun, Branched, Chosen, FrontAt, Looped, PartFirst, PassageFront, edge_of, open_behind, open_by, Worded}
 use Rattle.cob_move_loops.proofs.CutLemmas.{StopFirst, closes_stop, cut_one, no_cut, open_append, part_stop}
 use Rattle.cob_move_loops.proofs.PassageLemmas.{body_shorter, branch_shorter, branches_shorter, shorter}
 
@@ -179,6 +179,7 @@ parted_whole kind words rest own behind depth so few same last zero_is =
 abbrev pub front_size : PassageFront → ℕ
 front_size (ARun own) = 0
 front_size APause = 0
+front_size (Worded line v own) = 0
 front_size (Looped l own) = length own
 front_size (Chosen c own) = length own
 front_size (Branched t own) = length own
@@ -186,6 +187,7 @@ front_size (Branched t own) = length own
 pub front_smaller : (at : Place) (f : PassageFront) (ws more : List Lexeme) → FrontAt at f ws more → front_size f < length ws
 front_smaller at (ARun own) ws more stands = omega (arith, shorter at (ARun own) ws more stands)
 front_smaller at APause ws more stands = omega (arith, shorter at APause ws more stands)
+front_smaller at (Worded line v own) ws more stands = omega (arith, shorter at (Worded line v own) ws more stands)
 front_smaller place.Statements (Looped l own) ws more stands = body_shorter l own ws more stands
 front_smaller place.Statements (Chosen c own) ws more stands = branches_shorter c own ws more stands
 front_smaller place.Statements (Branched t own) ws more stands = absurd stands

@@ -6,13 +6,14 @@ use Rattle.cob_move_loops.specs.declared.naming.LoopFault.TheVariants as fault
 use Rattle.cob_move_loops.specs.declared.parts.Loop.{Loop}
 use Rattle.cob_move_loops.specs.declared.parts.Place.{Place}
 use Rattle.cob_move_loops.specs.Few.{AreLoopsApart, Clashes, loops_of}
-use Rattle.cob_move_loops.specs.Passages.{ARun, APause, Branched, Chosen, FrontAt, IsPassageAt, Looped, NoMore, Passage, PassageFront, WrittenLoop}
+use Rattle.cob_move_loops.specs.Passages.{ARun, APause, Branched, Chosen, FrontAt, IsPassageAt, Looped, NoMore, Passage, PassageFront, WrittenLoop, Worded}
 use Rattle.cob_move_loops.specs.Reading.{ApartFront, ClashesFront, IsClash, Within, loops_front, written_loop, written_loops}
 use Rattle.cob_move_loops.proofs.PassageLemmas.{IsOnlyFront, Parted, joined, nothing_left, parted}
 
 loops_joined : (f : PassageFront) (body more : Passage) → loops_of (joined f body more) ≡ loops_front f body ++ loops_of more
 loops_joined (ARun own) body more = refl
 loops_joined APause body more = refl
+loops_joined (Worded line v own) body more = refl
 loops_joined (Looped l own) body more = refl
 loops_joined (Chosen c own) body more = refl
 loops_joined (Branched t own) body more = refl
@@ -20,6 +21,7 @@ loops_joined (Branched t own) body more = refl
 apart_joined : (around : List WrittenLoop) (f : PassageFront) (body more : Passage) → ApartFront around f body → AreLoopsApart around more → AreLoopsApart around (joined f body more)
 apart_joined around (ARun own) body more front others = others
 apart_joined around APause body more front others = others
+apart_joined around (Worded line v own) body more front others = others
 apart_joined around (Looped l own) body more front others = (front.0, front.1, others)
 apart_joined around (Chosen c own) body more front others = (front, others)
 apart_joined around (Branched t own) body more front others = (front, others)
@@ -27,6 +29,7 @@ apart_joined around (Branched t own) body more front others = (front, others)
 clash_front : (around : List WrittenLoop) (f : PassageFront) (body more : Passage) (line : ℕ) → ClashesFront around f body line → Clashes around (joined f body more) line
 clash_front around (ARun own) body more line clash = absurd clash
 clash_front around APause body more line clash = absurd clash
+clash_front around (Worded verb_line v own) body more line clash = absurd clash
 clash_front around (Looped l own) body more line (inl own_clash) = inl own_clash
 clash_front around (Looped l own) body more line (inr inner) = inr (inl inner)
 clash_front around (Chosen c own) body more line clash = inl clash
@@ -35,6 +38,7 @@ clash_front around (Branched t own) body more line clash = inl clash
 clash_behind : (around : List WrittenLoop) (f : PassageFront) (body more : Passage) (line : ℕ) → Clashes around more line → Clashes around (joined f body more) line
 clash_behind around (ARun own) body more line clash = clash
 clash_behind around APause body more line clash = clash
+clash_behind around (Worded verb_line v own) body more line clash = clash
 clash_behind around (Looped l own) body more line clash = inr (inr clash)
 clash_behind around (Chosen c own) body more line clash = inr clash
 clash_behind around (Branched t own) body more line clash = inr clash

@@ -7,15 +7,17 @@ use Rattle.cob_move_loops.specs.declared.edges.Pair.TheVariants as pair
 use Rattle.cob_move_loops.specs.declared.parts.ChoiceKind.{ChoiceKind}
 use Rattle.cob_move_loops.specs.declared.parts.Place.{Place}
 use Rattle.cob_move_loops.specs.declared.parts.Place.TheVariants as place
+use Rattle.cob_move_loops.specs.declared.parts.Verb.{Verb}
+use Rattle.cob_move_loops.specs.declared.parts.Verb.TheVariants as verb
 use Rattle.cob_move_loops.specs.declared.words.PassageWord.{PassageWord}
 use Rattle.cob_move_loops.specs.declared.words.PassageWord.TheVariants as mark
 use Rattle.cob_move_loops.specs.Words.{IsOther, IsPeriod, PassageWordFirst, NoPeriod, passage_word}
-use Rattle.cob_move_loops.specs.Passages.{ABranch, AChoice, ALoop, APause, ARun, AnEvaluate, AnIf, Branched, BreaksAt, Chosen, FrontAt, FrontStands, IsPassageAt, IsRun, Looped, Moves, NoMore, Passage, PassageFront, Pause, WrittenChoice, WrittenLoop, WrittenTest, breaks_among, breaks_behind, breaks_here, breaks_in_branch, breaks_within, edge_of, kind_of, open_behind}
+use Rattle.cob_move_loops.specs.Passages.{ABranch, AChoice, ALoop, APause, ARun, AnEvaluate, AnIf, Branched, BreaksAt, Chosen, FrontAt, FrontStands, IsPassageAt, IsRun, Looped, Moves, NoMore, Passage, PassageFront, Pause, WrittenChoice, WrittenLoop, WrittenTest, breaks_among, breaks_behind, breaks_here, breaks_in_branch, breaks_within, edge_of, kind_of, open_behind, AVerb, Worded, verb_word}
 use Rattle.cob_move_loops.specs.Reading.{Within}
 use Rattle.cob_move_loops.specs.Laws.{BreaksNone, OnePassage}
 use Rattle.cob_move_loops.proofs.ChoiceLemmas.{branch_head_one, choice_one, closes_loop, ends_parted, tested_ends}
 use Rattle.cob_move_loops.proofs.CutLemmas.{close_one, cut_one, part_stop}
-use Rattle.cob_move_loops.proofs.HeadLemmas.{ends_before, head_one}
+use Rattle.cob_move_loops.proofs.HeadLemmas.{ends_before, head_one, items_one}
 use Rattle.cob_move_loops.proofs.PassageLemmas.{InFront, choice_first, empty_passage, head_first, in_front, joined, no_period, opening, shorter}
 
 pub others_one : (own us a b : List Lexeme) → AllByRecursion IsOther own → AllByRecursion IsOther us → PassageWordFirst a → PassageWordFirst b → own ++ a ≡ us ++ b → (own ≡ us) × (a ≡ b)
@@ -46,10 +48,17 @@ rank (Some mark.Perform) = 2
 rank (Some mark.If) = 3
 rank (Some mark.Evaluate) = 3
 rank (Some mark.EndPerform) = 4
+rank (Some mark.Set) = 5
+rank (Some mark.Initialize) = 6
+
+abbrev verb_rank : Verb → ℕ
+verb_rank verb.Set = 5
+verb_rank verb.Initialize = 6
 
 abbrev front_rank : PassageFront → ℕ
 front_rank (ARun own) = 0
 front_rank APause = 1
+front_rank (Worded line v own) = verb_rank v
 front_rank (Looped l own) = 2
 front_rank (Chosen c own) = 3
 front_rank (Branched t own) = 4
@@ -58,10 +67,25 @@ rank_opening : (c : WrittenChoice) → rank (Some (opening c)) ≡ 3
 rank_opening (AnIf line) = refl
 rank_opening (AnEvaluate line subject) = refl
 
+rank_verb : (v : Verb) → rank (Some (verb_word v)) ≡ verb_rank v
+rank_verb verb.Set = refl
+rank_verb verb.Initialize = refl
+
+high_rank : (v : Verb) → 4 < verb_rank v
+high_rank verb.Set = omega arith
+high_rank verb.Initialize = omega arith
+
+same_verb : (v u : Verb) → verb_rank v ≡ verb_rank u → v ≡ u
+same_verb verb.Set verb.Set e = refl
+same_verb verb.Set verb.Initialize e = absurd (omega (arith, e))
+same_verb verb.Initialize verb.Set e = absurd (omega (arith, e))
+same_verb verb.Initialize verb.Initialize e = refl
+
 first_word : (f : PassageFront) (ws more : List Lexeme) → FrontStands f ws more → (w : Lexeme) × (tail : List Lexeme) × (ws ≡ w ∷ tail) × (rank (passage_word w) ≡ front_rank f)
 first_word (ARun []) ws more (run, first, e) = absurd run
 first_word (ARun (w ∷ own)) ws more (run, first, e) = (w, own ++ more, e, ap rank run.1.0)
 first_word APause ws more (pause, stops, word, are, none, e) = (pause, stops ++ more, e, ap rank word)
+first_word (Worded line v own) ws more ((begins, stops, word, at, items, are, ends, e), none) = (begins, own ++ (stops ++ more), e, ap rank word ∙ rank_verb v)
 first_word (Looped l own) ws more (head, stops, end, h, b, word, are, none, e) =
     let (w, tail, perform, f) = head_first l head h in
     (w, tail ++ (own ++ end ∷ (stops ++ more)), e ∙ ap (λ (t : List Lexeme). t ++ (own ++ end ∷ (stops ++ more))) f, ap rank perform)
@@ -102,6 +126,17 @@ one_branch k t u own us ws more others (head, h, b, e) (deah, d, g, f) =
     let cut = cut_one (pair.Choice k) true (Some 0) own us more others b.closed (part_stop k more (ends_parted k t own more b.ends)) g.closed (part_stop k others (ends_parted k u us others g.ends)) heads.1 in
     (λ i. Branched (heads.0 i) (cut.0 i), cut.1)
 
+-- and with SET and INITIALIZE
+one_verb : (l m : ℕ) (v u : Verb) (own us ws more others : List Lexeme) → FrontStands (Worded l v own) ws more → FrontStands (Worded m u us) ws others
+    → v ≡ u → (Worded l v own ≡ Worded m u us) × (more ≡ others)
+one_verb l m v u own us ws more others ((begins, stops, word, at, items, are, ends, e), none) ((snigeb, spots, drow, ta, smeti, era, dnes, d), enon) same =
+    let both : begins ∷ (own ++ (stops ++ more)) ≡ snigeb ∷ (us ++ (spots ++ others)) = sym e ∙ d in
+    let first : begins ≡ snigeb = cc in
+    let tail : own ++ (stops ++ more) ≡ us ++ (spots ++ others) = cc in
+    let lines : l ≡ m = at ∙ ap (λ (w : Lexeme). w.line) first ∙ sym ta in
+    let cut = items_one own us (stops ++ more) (spots ++ others) items smeti ends dnes tail in
+    (λ i. Worded (lines i) (same i) (cut.0 i), periods_one stops spots more others are era none enon cut.1)
+
 other_rank : (f g : PassageFront) (ws more others : List Lexeme) → FrontStands f ws more → FrontStands g ws others → (front_rank f ≡ front_rank g → ⊥) → (f ≡ g) × (more ≡ others)
 other_rank f g ws more others p q never = absurd (never (same_rank f g ws more others p q))
 
@@ -118,6 +153,16 @@ one_statement APause APause ws more others (pause, stops, word, are, none, e) (e
     let both : pause ∷ (stops ++ more) ≡ esuap ∷ (spots ++ others) = sym e ∙ d in
     let tail : stops ++ more ≡ spots ++ others = cc in
     (refl, periods_one stops spots more others are era none enon tail)
+one_statement (ARun own) (Worded m u us) ws more others p q = other_rank (ARun own) (Worded m u us) ws more others p q (λ never. omega (arith, never, high_rank u))
+one_statement APause (Worded m u us) ws more others p q = other_rank APause (Worded m u us) ws more others p q (λ never. omega (arith, never, high_rank u))
+one_statement (Looped l own) (Worded m u us) ws more others p q = other_rank (Looped l own) (Worded m u us) ws more others p q (λ never. omega (arith, never, high_rank u))
+one_statement (Chosen c own) (Worded m u us) ws more others p q = other_rank (Chosen c own) (Worded m u us) ws more others p q (λ never. omega (arith, never, high_rank u))
+one_statement (Worded l v own) (ARun us) ws more others p q = other_rank (Worded l v own) (ARun us) ws more others p q (λ never. omega (arith, never, high_rank v))
+one_statement (Worded l v own) APause ws more others p q = other_rank (Worded l v own) APause ws more others p q (λ never. omega (arith, never, high_rank v))
+one_statement (Worded l v own) (Looped m us) ws more others p q = other_rank (Worded l v own) (Looped m us) ws more others p q (λ never. omega (arith, never, high_rank v))
+one_statement (Worded l v own) (Chosen c us) ws more others p q = other_rank (Worded l v own) (Chosen c us) ws more others p q (λ never. omega (arith, never, high_rank v))
+one_statement (Worded l v own) (Worded m u us) ws more others p q = one_verb l m v u own us ws more others p q (same_verb v u (same_rank (Worded l v own) (Worded m u us) ws more others p q))
+one_statement (Worded l v own) (Branched u us) ws more others p q = absurd q
 one_statement APause (Looped l us) ws more others p q = other_rank APause (Looped l us) ws more others p q (λ never. omega (arith, never))
 one_statement APause (Chosen c us) ws more others p q = other_rank APause (Chosen c us) ws more others p q (λ never. omega (arith, never))
 one_statement (Looped l own) (ARun us) ws more others p q = other_rank (Looped l own) (ARun us) ws more others p q (λ never. omega (arith, never))
@@ -137,10 +182,12 @@ one_statement (Chosen c own) (Branched u us) ws more others p q = absurd q
 one_among : (k : ChoiceKind) (f g : PassageFront) (ws more others : List Lexeme) → FrontAt (place.Branches k) f ws more → FrontAt (place.Branches k) g ws others → (f ≡ g) × (more ≡ others)
 one_among k (ARun own) g ws more others p q = absurd p
 one_among k APause g ws more others p q = absurd p
+one_among k (Worded l v own) g ws more others p q = absurd p
 one_among k (Looped l own) g ws more others p q = absurd p
 one_among k (Chosen c own) g ws more others p q = absurd p
 one_among k (Branched t own) (ARun us) ws more others p q = absurd q
 one_among k (Branched t own) APause ws more others p q = absurd q
+one_among k (Branched t own) (Worded l v us) ws more others p q = absurd q
 one_among k (Branched t own) (Looped l us) ws more others p q = absurd q
 one_among k (Branched t own) (Chosen c us) ws more others p q = absurd q
 one_among k (Branched t own) (Branched u us) ws more others p q = one_branch k t u own us ws more others p q
@@ -172,6 +219,11 @@ one_at place.Statements (Pause more) q ws (pause, stops, rest, word, are, e, is)
     let k = in_front place.Statements q ws other (some_words place.Statements APause ws rest stands) in
     let same = same_joined place.Statements APause more q ws rest stands is k (λ m it. one_at place.Statements more m rest is it) in
     ap (λ (m : Passage). Pause m) same.0 ∙ ap (λ (g : PassageFront). joined g k.body k.more) same.1 ∙ sym k.same
+one_at place.Statements (AVerb line v own more) q ws (rest, worded, is) other =
+    let stands : FrontStands (Worded line v own) ws rest = (worded, no_period more rest is) in
+    let k = in_front place.Statements q ws other (some_words place.Statements (Worded line v own) ws rest stands) in
+    let same = same_joined place.Statements (Worded line v own) more q ws rest stands is k (λ m it. one_at place.Statements more m rest is it) in
+    ap (λ (m : Passage). AVerb line v own m) same.0 ∙ ap (λ (g : PassageFront). joined g k.body k.more) same.1 ∙ sym k.same
 one_at place.Statements (ALoop l body more) q ws (head, own, stops, rest, end, h, b, inner, word, are, e, is) other =
     let stands : FrontStands (Looped l own) ws rest = (head, stops, end, h, b, word, are, no_period more rest is, e) in
     let k = in_front place.Statements q ws other (some_words place.Statements (Looped l own) ws rest stands) in
@@ -189,6 +241,7 @@ one_at place.Statements (AChoice c body more) q ws (head, own, stops, rest, end,
 one_at place.Statements (ABranch t body more) q ws is other = absurd is
 one_at (place.Branches kind) (Moves own more) q ws is other = absurd is
 one_at (place.Branches kind) (Pause more) q ws is other = absurd is
+one_at (place.Branches kind) (AVerb line v own more) q ws is other = absurd is
 one_at (place.Branches kind) (ALoop l body more) q ws is other = absurd is
 one_at (place.Branches kind) (AChoice c body more) q ws is other = absurd is
 one_at (place.Branches kind) (ABranch t body more) q ws (head, own, rest, h, b, inner, e, is) other =

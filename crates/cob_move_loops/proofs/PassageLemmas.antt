@@ -14,7 +14,7 @@ use Rattle.cob_move_loops.specs.declared.parts.Place.TheVariants as place
 use Rattle.cob_move_loops.specs.declared.words.PassageWord.{PassageWord}
 use Rattle.cob_move_loops.specs.declared.words.PassageWord.TheVariants as mark
 use Rattle.cob_move_loops.specs.Words.{IsPassageWord, IsPeriod, NoPeriod, passage_word_of_kind}
-use Rattle.cob_move_loops.specs.Passages.{ABranch, AChoice, ALoop, APause, ARun, AnEvaluate, AnIf, Branched, BreaksAt, Chosen, FrontAt, FrontStands, IsBranchHead, IsChoiceHead, IsHead, IsPassage, IsPassageAt, IsRun, Looped, Moves, NoMore, Otherwise, Passage, PassageFront, Pause, Tested, WrittenChoice, WrittenLoop, WrittenTest, breaks_among, breaks_behind, breaks_in_branch, breaks_within}
+use Rattle.cob_move_loops.specs.Passages.{ABranch, AChoice, ALoop, APause, ARun, AnEvaluate, AnIf, Branched, BreaksAt, Chosen, FrontAt, FrontStands, IsBranchHead, IsChoiceHead, IsHead, IsPassage, IsPassageAt, IsRun, Looped, Moves, NoMore, Otherwise, Passage, PassageFront, Pause, Tested, WrittenChoice, WrittenLoop, WrittenTest, breaks_among, breaks_behind, breaks_in_branch, breaks_within, AVerb, Worded, verb_word}
 use Rattle.cob_move_loops.specs.Reading.{BreaksWithin, HasPassages, Within, written_front}
 use Rattle.cob_move_loops.specs.Turns.{Counted, words_by_turn}
 
@@ -22,6 +22,7 @@ use Rattle.cob_move_loops.specs.Turns.{Counted, words_by_turn}
 abbrev pub joined : PassageFront → Passage → Passage → Passage
 joined (ARun own) body more = Moves own more
 joined APause body more = Pause more
+joined (Worded line v own) body more = AVerb line v own more
 joined (Looped l own) body more = ALoop l body more
 joined (Chosen c own) body more = AChoice c body more
 joined (Branched t own) body more = ABranch t body more
@@ -52,6 +53,7 @@ pub no_period : (p : Passage) (ws : List Lexeme) → IsPassage p ws → NoPeriod
 no_period NoMore ws e = subst NoPeriod (sym e) tt
 no_period (Moves own more) ws (rest, run, first, e, is) = subst NoPeriod (sym e) (run_no_period own rest run)
 no_period (Pause more) ws (pause, stops, rest, word, are, e, is) = subst NoPeriod (sym e) (loop_no_period mark.Continue pause word)
+no_period (AVerb line v own more) ws (rest, (begins, stops, word, at, items, are, ends, e), is) = subst NoPeriod (sym e) (loop_no_period (verb_word v) begins word)
 no_period (ALoop l body more) ws (head, own, stops, rest, end, h, b, inner, word, are, e, is) =
     let (w, tail, first, f) = head_first l head h in
     subst NoPeriod (sym (e ∙ ap (λ (t : List Lexeme). t ++ (own ++ end ∷ (stops ++ rest))) f)) (loop_no_period mark.Perform w first)
@@ -78,6 +80,16 @@ in_front place.Statements (Moves own more) ws (rest, run, first, e, is) some =
     record { front = ARun own; behind = rest; body = NoMore; more = more; stands = (run, first, e); within = tt; is = is; same = refl }
 in_front place.Statements (Pause more) ws (pause, stops, rest, word, are, e, is) some =
     record { front = APause; behind = rest; body = NoMore; more = more; stands = (pause, stops, word, are, no_period more rest is, e); within = tt; is = is; same = refl }
+in_front place.Statements (AVerb line v own more) ws (rest, stands, is) some = record {
+  front = Worded line v own;
+  behind = rest;
+  body = NoMore;
+  more = more;
+  stands = (stands, no_period more rest is);
+  within = tt;
+  is = is;
+  same = refl;
+}
 in_front place.Statements (ALoop l body more) ws (head, own, stops, rest, end, h, b, inner, word, are, e, is) some = record {
   front = Looped l own;
   behind = rest;
@@ -101,6 +113,7 @@ in_front place.Statements (AChoice c branches more) ws (head, own, stops, rest, 
 in_front place.Statements (ABranch t body more) ws is some = absurd is
 in_front (place.Branches kind) (Moves own more) ws is some = absurd is
 in_front (place.Branches kind) (Pause more) ws is some = absurd is
+in_front (place.Branches kind) (AVerb line v own more) ws is some = absurd is
 in_front (place.Branches kind) (ALoop l body more) ws is some = absurd is
 in_front (place.Branches kind) (AChoice c branches more) ws is some = absurd is
 in_front (place.Branches kind) (ABranch t body more) ws (head, own, rest, h, b, inner, e, is) some =
@@ -109,11 +122,13 @@ in_front (place.Branches kind) (ABranch t body more) ws (head, own, rest, h, b, 
 pub joined_is : (at : Place) (f : PassageFront) (body more : Passage) (ws behind : List Lexeme) → FrontAt at f ws behind → Within f body → IsPassageAt at more behind → IsPassageAt at (joined f body more) ws
 joined_is place.Statements (ARun own) body more ws behind (run, first, e) within is = (behind, run, first, e, is)
 joined_is place.Statements APause body more ws behind (pause, stops, word, are, none, e) within is = (pause, stops, behind, word, are, e, is)
+joined_is place.Statements (Worded line v own) body more ws behind (stands, none) within is = (behind, stands, is)
 joined_is place.Statements (Looped l own) body more ws behind (head, stops, end, h, b, word, are, none, e) within is = (head, own, stops, behind, end, h, b, within, word, are, e, is)
 joined_is place.Statements (Chosen c own) body more ws behind (head, stops, end, h, b, word, are, none, e) within is = (head, own, stops, behind, end, h, b, within, word, are, e, is)
 joined_is place.Statements (Branched t own) body more ws behind stands within is = absurd stands
 joined_is (place.Branches kind) (ARun own) body more ws behind stands within is = absurd stands
 joined_is (place.Branches kind) APause body more ws behind stands within is = absurd stands
+joined_is (place.Branches kind) (Worded line v own) body more ws behind stands within is = absurd stands
 joined_is (place.Branches kind) (Looped l own) body more ws behind stands within is = absurd stands
 joined_is (place.Branches kind) (Chosen c own) body more ws behind stands within is = absurd stands
 joined_is (place.Branches kind) (Branched t own) body more ws behind (head, h, b, e) within is = (head, own, behind, h, b, within, e, is)
@@ -121,6 +136,7 @@ joined_is (place.Branches kind) (Branched t own) body more ws behind (head, h, b
 pub written_joined : (ns : List Counted) (f : PassageFront) (body more : Passage) → words_by_turn ns (joined f body more) ≡ written_front ns f body ++ words_by_turn ns more
 written_joined ns (ARun own) body more = refl
 written_joined ns APause body more = refl
+written_joined ns (Worded line v own) body more = refl
 written_joined ns (Looped l own) body more = refl
 written_joined ns (Chosen c own) body more = refl
 written_joined ns (Branched t own) body more = refl
@@ -142,6 +158,7 @@ empty_passage at NoMore ws is e = refl
 empty_passage place.Statements (Moves [] more) ws (rest, run, first, f, is) e = absurd run
 empty_passage place.Statements (Moves (w ∷ own) more) ws (rest, run, first, f, is) e = absurd (omega (arith, ap length (sym f ∙ e)))
 empty_passage place.Statements (Pause more) ws (pause, stops, rest, word, are, f, is) e = absurd (omega (arith, ap length (sym f ∙ e)))
+empty_passage place.Statements (AVerb line v own more) ws (rest, (begins, stops, word, at, items, are, ends, f), is) e = absurd (omega (arith, ap length (sym f ∙ e)))
 empty_passage place.Statements (ALoop l body more) ws (head, own, stops, rest, end, h, b, inner, word, are, f, is) e =
     absurd (omega (arith, ap length (sym f ∙ e), length-append head (own ++ end ∷ (stops ++ rest)), length-append own (end ∷ (stops ++ rest))))
 empty_passage place.Statements (AChoice c branches more) ws (head, own, stops, rest, end, h, b, inner, word, are, f, is) e =
@@ -149,6 +166,7 @@ empty_passage place.Statements (AChoice c branches more) ws (head, own, stops, r
 empty_passage place.Statements (ABranch t body more) ws is e = absurd is
 empty_passage (place.Branches kind) (Moves own more) ws is e = absurd is
 empty_passage (place.Branches kind) (Pause more) ws is e = absurd is
+empty_passage (place.Branches kind) (AVerb line v own more) ws is e = absurd is
 empty_passage (place.Branches kind) (ALoop l body more) ws is e = absurd is
 empty_passage (place.Branches kind) (AChoice c branches more) ws is e = absurd is
 empty_passage (place.Branches kind) (ABranch t body more) ws (head, own, rest, h, b, inner, f, is) e =
@@ -190,6 +208,7 @@ parted at f rest more q is some only =
 has_body : (f : PassageFront) → HasPassages f → (body : Passage) × Within f body
 has_body (ARun own) has = (NoMore, tt)
 has_body APause has = (NoMore, tt)
+has_body (Worded line v own) has = (NoMore, tt)
 has_body (Looped l own) has = has
 has_body (Chosen c own) has = has
 has_body (Branched t own) has = has
@@ -212,6 +231,7 @@ checked_more at words rest more f so stands has =
 pub broken_within : (at : Place) (words rest more : List Lexeme) (f : PassageFront) (line : ℕ) → Checked at words rest → FrontAt at f rest more → BreaksWithin f line → BreaksAt at words line
 broken_within at words rest more (ARun own) line so stands broken = absurd broken
 broken_within at words rest more APause line so stands broken = absurd broken
+broken_within at words rest more (Worded verb_line v own) line so stands broken = absurd broken
 broken_within at words rest more (Looped l own) line so stands broken = so.broken line (breaks_within at rest own more l line stands broken)
 broken_within at words rest more (Chosen c own) line so stands broken = so.broken line (breaks_among at rest own more c line stands broken)
 broken_within at words rest more (Branched t own) line so stands broken = so.broken line (breaks_in_branch at rest own more t line stands broken)
@@ -228,6 +248,8 @@ pub shorter : (at : Place) (f : PassageFront) (ws more : List Lexeme) → FrontA
 shorter place.Statements (ARun []) ws more (run, first, e) = absurd run
 shorter place.Statements (ARun (w ∷ own)) ws more (run, first, e) = omega (arith, ap length e, length-append own more)
 shorter place.Statements APause ws more (pause, stops, word, are, none, e) = omega (arith, ap length e, length-append stops more)
+shorter place.Statements (Worded line v own) ws more ((begins, stops, word, at, items, are, ends, e), none) =
+    omega (arith, ap length e, length-append own (stops ++ more), length-append stops more)
 shorter place.Statements (Looped l own) ws more (head, stops, end, h, b, word, are, none, e) =
     omega (arith, ap length e, length-append head (own ++ end ∷ (stops ++ more)), length-append own (end ∷ (stops ++ more)), length-append stops more)
 shorter place.Statements (Chosen c own) ws more (head, stops, end, h, b, word, are, none, e) =
@@ -235,6 +257,7 @@ shorter place.Statements (Chosen c own) ws more (head, stops, end, h, b, word, a
 shorter place.Statements (Branched t own) ws more stands = absurd stands
 shorter (place.Branches kind) (ARun own) ws more stands = absurd stands
 shorter (place.Branches kind) APause ws more stands = absurd stands
+shorter (place.Branches kind) (Worded line v own) ws more stands = absurd stands
 shorter (place.Branches kind) (Looped l own) ws more stands = absurd stands
 shorter (place.Branches kind) (Chosen c own) ws more stands = absurd stands
 shorter (place.Branches kind) (Branched t own) ws more (head, h, b, e) =

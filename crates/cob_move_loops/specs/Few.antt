@@ -13,7 +13,7 @@ use Rattle.cob_move_loops.specs.declared.words.PassageWord.{PassageWord}
 use Rattle.cob_move_loops.specs.declared.words.PassageWord.TheVariants as mark
 use Rattle.cob_limits.specs.Limits.{most_open, most_written_out}
 use Rattle.cob_move_loops.specs.Words.{passage_word}
-use Rattle.cob_move_loops.specs.Passages.{ABranch, AChoice, ALoop, Moves, NoMore, Passage, Pause, WrittenLoop, edge_of, open_by}
+use Rattle.cob_move_loops.specs.Passages.{ABranch, AChoice, ALoop, AVerb, Moves, NoMore, Passage, Pause, WrittenLoop, edge_of, open_by}
 use Rattle.cob_move_loops.specs.Turns.{turns_of}
 
 -- a word MOVE is one statement, another word none
@@ -31,6 +31,7 @@ abbrev pub statements_of : Passage → ℕ
 statements_of NoMore = 0
 statements_of (Moves own more) = statements_in own + statements_of more
 statements_of (Pause more) = statements_of more
+statements_of (AVerb line v own more) = 1 + statements_of more
 statements_of (ALoop l body more) = turns_of l * statements_of body + statements_of more
 statements_of (AChoice c branches more) = 1 + statements_of branches + statements_of more
 statements_of (ABranch t own more) = statements_of own + statements_of more
@@ -57,6 +58,7 @@ abbrev pub looped_of : Passage → ℕ
 looped_of NoMore = 0
 looped_of (Moves own more) = looped_of more
 looped_of (Pause more) = looped_of more
+looped_of (AVerb line v own more) = looped_of more
 looped_of (ALoop l body more) = turns_of l * statements_of body + looped_of more
 looped_of (AChoice c branches more) = looped_of branches + looped_of more
 looped_of (ABranch t own more) = looped_of own + looped_of more
@@ -74,6 +76,7 @@ abbrev pub loops_of : Passage → List WrittenLoop
 loops_of NoMore = []
 loops_of (Moves own more) = loops_of more
 loops_of (Pause more) = loops_of more
+loops_of (AVerb line v own more) = loops_of more
 loops_of (ALoop l body more) = l ∷ (loops_of body ++ loops_of more)
 loops_of (AChoice c branches more) = loops_of branches ++ loops_of more
 loops_of (ABranch t own more) = loops_of own ++ loops_of more
@@ -88,6 +91,7 @@ abbrev pub AreLoopsApart : List WrittenLoop → Passage → Type 0
 AreLoopsApart around NoMore = Unit {0}
 AreLoopsApart around (Moves own more) = AreLoopsApart around more
 AreLoopsApart around (Pause more) = AreLoopsApart around more
+AreLoopsApart around (AVerb line v own more) = AreLoopsApart around more
 AreLoopsApart around (ALoop l body more) = IsApart around l × AreLoopsApart (around ++ l ∷ []) body × AreLoopsApart around more
 AreLoopsApart around (AChoice c branches more) = AreLoopsApart around branches × AreLoopsApart around more
 AreLoopsApart around (ABranch t own more) = AreLoopsApart around own × AreLoopsApart around more
@@ -97,6 +101,7 @@ abbrev pub Clashes : List WrittenLoop → Passage → ℕ → Type 0
 Clashes around NoMore line = ⊥
 Clashes around (Moves own more) line = Clashes around more line
 Clashes around (Pause more) line = Clashes around more line
+Clashes around (AVerb verb_line v own more) line = Clashes around more line
 Clashes around (ALoop l body more) line =
     ((line ≡ l.line) × (IsApart around l → ⊥)) ⊎ (Clashes (around ++ l ∷ []) body line ⊎ Clashes around more line)
 Clashes around (AChoice c branches more) line = Clashes around branches line ⊎ Clashes around more line

@@ -13,11 +13,13 @@ use Rattle.cob_move_loops.specs.declared.parts.ChoiceKind.{ChoiceKind}
 use Rattle.cob_move_loops.specs.declared.parts.ChoiceKind.TheVariants as kind
 use Rattle.cob_move_loops.specs.declared.parts.Place.{Place}
 use Rattle.cob_move_loops.specs.declared.parts.Place.TheVariants as place
+use Rattle.cob_move_loops.specs.declared.parts.Verb.{Verb}
+use Rattle.cob_move_loops.specs.declared.parts.Verb.TheVariants as verb
 use Rattle.cob_move_loops.specs.declared.words.BranchWord.{BranchWord}
 use Rattle.cob_move_loops.specs.declared.words.BranchWord.TheVariants as branch
 use Rattle.cob_move_loops.specs.declared.words.PassageWord.{PassageWord}
 use Rattle.cob_move_loops.specs.declared.words.PassageWord.TheVariants as mark
-use Rattle.cob_move_loops.specs.Words.{AreItemWords, AreTestWords, IsBranchWord, IsCounter, IsNoPeriod, IsNumber, IsOther, IsPassageWord, IsPeriod, IsTestWord, IsThen, NoHeadWord, NoItemWord, NoPeriod, NotOtherFirst, PassageWordFirst, branch_word, first_line, passage_word}
+use Rattle.cob_move_loops.specs.Words.{AreItemWords, AreTestWords, IsBranchWord, IsCounter, IsItemWord, IsNoPeriod, IsNumber, IsOther, IsPassageWord, IsPeriod, IsTestWord, IsThen, NoHeadWord, NoItemWord, NoPeriod, NotOtherFirst, PassageWordFirst, branch_word, first_line, passage_word}
 
 -- what a loop ends by: a number that its counter is not to pass, or that of an item, by the words that name it
 pub data WrittenBound : Type 0 where
@@ -43,13 +45,14 @@ pub data WrittenTest : Type 0 where
   Tested : List Lexeme → WrittenTest
   Otherwise : WrittenTest
 
--- What stands in order: nothing; words of MOVE statements, and the others; CONTINUE, and the others; a loop with its statements, and the others; a choice with
--- its branches, and the others. What stands in a choice is branches: what one is taken by, its statements, and the other branches. A branch without
+-- What stands in order: nothing; words of MOVE statements, and the others; CONTINUE, and the others; SET or INITIALIZE on this line with the words behind it, and
+-- the others; a loop with its statements, and the others; a choice with its branches, and the others. What stands in a choice is branches: what one is taken by, its statements, and the other branches. A branch without
 -- statements has those of the next.
 pub data Passage : Type 0 where
   NoMore : Passage
   Moves : List Lexeme → Passage → Passage
   Pause : Passage → Passage
+  AVerb : ℕ → Verb → List Lexeme → Passage → Passage
   ALoop : WrittenLoop → Passage → Passage → Passage
   AChoice : WrittenChoice → Passage → Passage → Passage
   ABranch : WrittenTest → Passage → Passage → Passage
@@ -106,6 +109,17 @@ IsHead l ws = (varying stepping until : List Lexeme)
 abbrev pub IsRun : List Lexeme → Type 0
 IsRun [] = ⊥
 IsRun (w ∷ ws) = (word_class w ≡ term.Move) × AllByRecursion IsOther (w ∷ ws)
+
+-- the word that SET or INITIALIZE is
+abbrev pub verb_word : Verb → PassageWord
+verb_word verb.Set = mark.Set
+verb_word verb.Initialize = mark.Initialize
+
+-- SET or INITIALIZE on this line, the words of references behind it, and the periods behind these; no such word comes first in what follows
+abbrev pub IsVerb : ℕ → Verb → (own more ws : List Lexeme) → Type 0
+IsVerb line v own more ws = (begins : Lexeme) × (stops : List Lexeme)
+    × IsPassageWord (verb_word v) begins × (line ≡ begins.line) × AllByRecursion IsItemWord own × AllByRecursion IsPeriod stops
+    × NoItemWord (stops ++ more) × (ws ≡ begins ∷ (own ++ (stops ++ more)))
 
 -- what PERFORM and END-PERFORM are to loops
 abbrev pub loop_edge : Option PassageWord → Option Edge
@@ -230,7 +244,7 @@ pub record IsBranchBody (kind : ChoiceKind) (t : WrittenTest) (ws more : List Le
   pub closed : open_behind (pair.Choice kind) true (Some 0) ws ≡ Some 0
   pub ends : BranchEnds kind t ws more
 
--- Words say a passage where they stand: statements, or the branches of a choice. Behind CONTINUE, END-PERFORM, END-IF and END-EVALUATE periods may stand,
+-- Words say a passage where they stand: statements, or the branches of a choice. Behind CONTINUE, SET and INITIALIZE with their words, END-PERFORM, END-IF and END-EVALUATE periods may stand,
 -- outside of loops and choices.
 abbrev pub IsPassageAt : Place → Passage → List Lexeme → Type 0
 IsPassageAt at NoMore ws = ws ≡ []
@@ -238,6 +252,7 @@ IsPassageAt place.Statements (Moves own more) ws = (rest : List Lexeme)
     × IsRun own × PassageWordFirst rest × (ws ≡ own ++ rest) × IsPassageAt place.Statements more rest
 IsPassageAt place.Statements (Pause more) ws = (pause : Lexeme) × (stops rest : List Lexeme)
     × IsPassageWord mark.Continue pause × AllByRecursion IsPeriod stops × (ws ≡ pause ∷ (stops ++ rest)) × IsPassageAt place.Statements more rest
+IsPassageAt place.Statements (AVerb line v own more) ws = (rest : List Lexeme) × IsVerb line v own rest ws × IsPassageAt place.Statements more rest
 IsPassageAt place.Statements (ALoop l body more) ws = (head own stops rest : List Lexeme) × (end : Lexeme)
     × IsHead l head × IsLoopBody l.bound own × IsPassageAt place.Statements body own × IsPassageWord mark.EndPerform end × AllByRecursion IsPeriod stops
     × (ws ≡ head ++ (own ++ end ∷ (stops ++ rest))) × IsPassageAt place.Statements more rest
@@ -248,6 +263,7 @@ IsPassageAt place.Statements (AChoice c branches more) ws = (head own stops rest
 IsPassageAt place.Statements (ABranch t own more) ws = ⊥
 IsPassageAt (place.Branches kind) (Moves own more) ws = ⊥
 IsPassageAt (place.Branches kind) (Pause more) ws = ⊥
+IsPassageAt (place.Branches kind) (AVerb line v own more) ws = ⊥
 IsPassageAt (place.Branches kind) (ALoop l body more) ws = ⊥
 IsPassageAt (place.Branches kind) (AChoice c branches more) ws = ⊥
 IsPassageAt (place.Branches kind) (ABranch t body more) ws = (head own rest : List Lexeme)
@@ -258,11 +274,12 @@ IsPassageAt (place.Branches kind) (ABranch t body more) ws = (head own rest : Li
 abbrev pub IsPassage : Passage → List Lexeme → Type 0
 IsPassage p ws = IsPassageAt place.Statements p ws
 
--- What stands in front of a passage: words of MOVE statements, CONTINUE, a loop with the words of its statements, a choice with those of its branches; or a
+-- What stands in front of a passage: words of MOVE statements, CONTINUE, SET or INITIALIZE with the words behind it, a loop with the words of its statements, a choice with those of its branches; or a
 -- branch with the words of its statements.
 pub data PassageFront : Type 0 where
   ARun : List Lexeme → PassageFront
   APause : PassageFront
+  Worded : ℕ → Verb → List Lexeme → PassageFront
   Looped : WrittenLoop → List Lexeme → PassageFront
   Chosen : WrittenChoice → List Lexeme → PassageFront
   Branched : WrittenTest → List Lexeme → PassageFront
@@ -272,6 +289,7 @@ abbrev pub FrontAt : Place → PassageFront → List Lexeme → List Lexeme → 
 FrontAt place.Statements (ARun own) words more = IsRun own × PassageWordFirst more × (words ≡ own ++ more)
 FrontAt place.Statements APause words more = (pause : Lexeme) × (stops : List Lexeme)
     × IsPassageWord mark.Continue pause × AllByRecursion IsPeriod stops × NoPeriod more × (words ≡ pause ∷ (stops ++ more))
+FrontAt place.Statements (Worded line v own) words more = IsVerb line v own more words × NoPeriod more
 FrontAt place.Statements (Looped l own) words more = (head stops : List Lexeme) × (end : Lexeme)
     × IsHead l head × IsLoopBody l.bound own × IsPassageWord mark.EndPerform end × AllByRecursion IsPeriod stops × NoPeriod more
     × (words ≡ head ++ (own ++ end ∷ (stops ++ more)))
@@ -281,6 +299,7 @@ FrontAt place.Statements (Chosen c own) words more = (head stops : List Lexeme) 
 FrontAt place.Statements (Branched t own) words more = ⊥
 FrontAt (place.Branches kind) (ARun own) words more = ⊥
 FrontAt (place.Branches kind) APause words more = ⊥
+FrontAt (place.Branches kind) (Worded line v own) words more = ⊥
 FrontAt (place.Branches kind) (Looped l own) words more = ⊥
 FrontAt (place.Branches kind) (Chosen c own) words more = ⊥
 FrontAt (place.Branches kind) (Branched t own) words more = (head : List Lexeme)

@@ -26,7 +26,7 @@ use Rattle.cob_move_loops.specs.declared.front.PassageItem.TheVariants as item
 use Rattle.cob_move_loops.specs.Few.{AreLoopsApart, Clashes, IsApart, looped_of, loops_of, statements_in, statements_of}
 use Rattle.cob_move_loops.specs.Turns.{Counted, counter_at, in_turn, turns, turns_of, words_by_turn}
 use Rattle.cob_move_loops.specs.Words.{NoTestWord}
-use Rattle.cob_move_loops.specs.Passages.{AnEvaluate, AnIf, APause, ARun, AreBoundWords, BoundEnds, Branched, Breaks, BreaksAt, Chosen, IsBranchHead, IsChoiceHead, IsHead, IsPassage, IsPassageAt, IsUntil, IsWhenTest, Looped, Otherwise, PartFirst, Passage, PassageFront, Tested, ToItem, ToNumber, WrittenBound, WrittenChoice, WrittenLoop, WrittenTest, edge_of, kind_of, open_behind}
+use Rattle.cob_move_loops.specs.Passages.{AnEvaluate, AnIf, APause, ARun, AreBoundWords, BoundEnds, Branched, Breaks, BreaksAt, Chosen, IsBranchHead, IsChoiceHead, IsHead, IsPassage, IsPassageAt, IsUntil, IsWhenTest, Looped, Otherwise, PartFirst, Passage, PassageFront, Tested, ToItem, ToNumber, WrittenBound, WrittenChoice, WrittenLoop, WrittenTest, edge_of, kind_of, open_behind, Worded}
 
 -- what a loop ends by, without where its words lie in memory
 abbrev pub written_bound : LoopBound → WrittenBound
@@ -90,6 +90,7 @@ NoTestAfter (AnEvaluate line subject) more = NoTestWord more
 abbrev pub item_front : PassageItem → PassageFront
 item_front (item.Run words) = ARun (lexemes words.now)
 item_front item.Pause = APause
+item_front (item.Verb line verb words) = Worded line verb (lexemes words.now)
 item_front (item.Loop head body) = Looped (written_loop head) (lexemes body.now)
 item_front (item.Choice choice branches) = Chosen (written_choice choice) (lexemes branches.now)
 item_front (item.Branch test body) = Branched (written_test test) (lexemes body.now)
@@ -131,6 +132,7 @@ AnswersFront answer f more = IsSomeAnd answer (λ r. (item_front r.0 ≡ f) × (
 abbrev pub HasPassages : PassageFront → Type 0
 HasPassages (ARun own) = Unit {0}
 HasPassages APause = Unit {0}
+HasPassages (Worded line v own) = Unit {0}
 HasPassages (Looped l own) = (p : Passage) × IsPassage p own
 HasPassages (Chosen c own) = (p : Passage) × IsPassageAt (place.Branches (kind_of c)) p own
 HasPassages (Branched t own) = (p : Passage) × IsPassage p own
@@ -139,6 +141,7 @@ HasPassages (Branched t own) = (p : Passage) × IsPassage p own
 abbrev pub BreaksWithin : PassageFront → ℕ → Type 0
 BreaksWithin (ARun own) line = ⊥
 BreaksWithin APause line = ⊥
+BreaksWithin (Worded verb_line v own) line = ⊥
 BreaksWithin (Looped l own) line = Breaks own line
 BreaksWithin (Chosen c own) line = BreaksAt (place.Branches (kind_of c)) own line
 BreaksWithin (Branched t own) line = Breaks own line
@@ -159,6 +162,7 @@ all_runs rs = map run_words rs
 abbrev pub Within : PassageFront → Passage → Type 0
 Within (ARun own) p = Unit {0}
 Within APause p = Unit {0}
+Within (Worded line v own) p = Unit {0}
 Within (Looped l own) p = IsPassage p own
 Within (Chosen c own) p = IsPassageAt (place.Branches (kind_of c)) p own
 Within (Branched t own) p = IsPassage p own
@@ -167,6 +171,7 @@ Within (Branched t own) p = IsPassage p own
 abbrev pub written_front : List Counted → PassageFront → Passage → List (List Lexeme)
 written_front ns (ARun own) p = in_turn ns false 0 own ∷ []
 written_front ns APause p = []
+written_front ns (Worded line v own) p = []
 written_front ns (Looped l own) p = turns (λ i. words_by_turn (ns ++ counter_at l i ∷ []) p) l.by (turns_of l) l.from
 written_front ns (Chosen c own) p = words_by_turn ns p
 written_front ns (Branched t own) p = words_by_turn ns p
@@ -187,6 +192,7 @@ written_loops ls = map written_loop ls
 abbrev pub statements_front : PassageFront → Passage → ℕ
 statements_front (ARun own) p = statements_in own
 statements_front APause p = 0
+statements_front (Worded line v own) p = 1
 statements_front (Looped l own) p = turns_of l * statements_of p
 statements_front (Chosen c own) p = 1 + statements_of p
 statements_front (Branched t own) p = statements_of p
@@ -195,6 +201,7 @@ statements_front (Branched t own) p = statements_of p
 abbrev pub looped_front : PassageFront → Passage → ℕ
 looped_front (ARun own) p = 0
 looped_front APause p = 0
+looped_front (Worded line v own) p = 0
 looped_front (Looped l own) p = turns_of l * statements_of p
 looped_front (Chosen c own) p = looped_of p
 looped_front (Branched t own) p = looped_of p
@@ -203,6 +210,7 @@ looped_front (Branched t own) p = looped_of p
 abbrev pub loops_front : PassageFront → Passage → List WrittenLoop
 loops_front (ARun own) p = []
 loops_front APause p = []
+loops_front (Worded line v own) p = []
 loops_front (Looped l own) p = l ∷ loops_of p
 loops_front (Chosen c own) p = loops_of p
 loops_front (Branched t own) p = loops_of p
@@ -211,6 +219,7 @@ loops_front (Branched t own) p = loops_of p
 abbrev pub ApartFront : List WrittenLoop → PassageFront → Passage → Type 0
 ApartFront around (ARun own) p = Unit {0}
 ApartFront around APause p = Unit {0}
+ApartFront around (Worded line v own) p = Unit {0}
 ApartFront around (Looped l own) p = IsApart around l × AreLoopsApart (around ++ l ∷ []) p
 ApartFront around (Chosen c own) p = AreLoopsApart around p
 ApartFront around (Branched t own) p = AreLoopsApart around p
@@ -219,6 +228,7 @@ ApartFront around (Branched t own) p = AreLoopsApart around p
 abbrev pub ClashesFront : List WrittenLoop → PassageFront → Passage → ℕ → Type 0
 ClashesFront around (ARun own) p line = ⊥
 ClashesFront around APause p line = ⊥
+ClashesFront around (Worded verb_line v own) p line = ⊥
 ClashesFront around (Looped l own) p line = ((line ≡ l.line) × (IsApart around l → ⊥)) ⊎ Clashes (around ++ l ∷ []) p line
 ClashesFront around (Chosen c own) p line = Clashes around p line
 ClashesFront around (Branched t own) p line = Clashes around p line

@@ -10,7 +10,7 @@ use Rattle.cob_copybook_clauses.specs.Terms.{word_class}
 use Rattle.cob_copybook_clauses.specs.declared.term.WordClass.{WordClass}
 use Rattle.cob_copybook_clauses.specs.declared.term.WordClass.TheVariants as term
 use Rattle.cob_limits.specs.Limits.{most_counter_digits}
-use Rattle.cob_move_loops.specs.Passages.{ABranch, AChoice, ALoop, Moves, NoMore, Passage, Pause, ToItem, ToNumber, WrittenBound, WrittenLoop}
+use Rattle.cob_move_loops.specs.Passages.{ABranch, AChoice, ALoop, AVerb, Moves, NoMore, Passage, Pause, ToItem, ToNumber, WrittenBound, WrittenLoop}
 
 -- a counter and its number in a turn
 pub record Counted : Type 0 where
@@ -136,6 +136,7 @@ abbrev pub words_by_turn : List Counted → Passage → List (List Lexeme)
 words_by_turn ns NoMore = []
 words_by_turn ns (Moves own more) = in_turn ns false 0 own ∷ words_by_turn ns more
 words_by_turn ns (Pause more) = words_by_turn ns more
+words_by_turn ns (AVerb line v own more) = words_by_turn ns more
 words_by_turn ns (ALoop l body more) = turns (λ i. words_by_turn (ns ++ counter_at l i ∷ []) body) l.by (turns_of l) l.from ++ words_by_turn ns more
 words_by_turn ns (AChoice c branches more) = words_by_turn ns branches ++ words_by_turn ns more
 words_by_turn ns (ABranch t own more) = words_by_turn ns own ++ words_by_turn ns more

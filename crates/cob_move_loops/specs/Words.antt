@@ -22,6 +22,8 @@ passage_word_in text =
     else if bytes_eq text (codes "CONTINUE") then Some mark.Continue
     else if bytes_eq text (codes "IF") then Some mark.If
     else if bytes_eq text (codes "EVALUATE") then Some mark.Evaluate
+    else if bytes_eq text (codes "SET") then Some mark.Set
+    else if bytes_eq text (codes "INITIALIZE") then Some mark.Initialize
     else None
 
 -- a literal and a period are no words

@@ -68,6 +68,7 @@ fn is_in_item(name: &[u8], item: &PassageItem<'_>) -> bool
     match item {
         PassageItem::Run(words) => is_subscripted(name, words),
         PassageItem::Pause => false,
+        PassageItem::Verb { words, .. } => is_subscripted(name, words),
         PassageItem::Loop { head, body } => is_in_loop(name, head, body),
         PassageItem::Choice { choice, branches } => is_in_choice(name, choice, branches),
         PassageItem::Branch { test, body } => is_in_branch(name, test, body),
@@ -143,7 +144,7 @@ fn check_item(item: &PassageItem<'_>) -> Result<(), u32>
         → LacksBoundFront (item_front item.now) p line) }
 {
     match item {
-        PassageItem::Run(_) | PassageItem::Pause => Ok(()),
+        PassageItem::Run(_) | PassageItem::Pause | PassageItem::Verb { .. } => Ok(()),
         PassageItem::Loop { head, body } => {
             if !is_bounded(head, body) {
                 return Err(head.line);

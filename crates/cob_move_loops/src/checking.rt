@@ -22,7 +22,7 @@ fn check_item(item: &PassageItem<'_>) -> Result<(), u32>
     ensures line { IfErr result (λ line. BreaksWithin (item_front item.now) line) }
 {
     match item {
-        PassageItem::Run(_) | PassageItem::Pause => Ok(()),
+        PassageItem::Run(_) | PassageItem::Pause | PassageItem::Verb { .. } => Ok(()),
         PassageItem::Loop { body, .. } => check_at(Place::Statements, body),
         PassageItem::Choice { choice, branches } => check_at(
             Place::Branches(kind_of(choice)),

@@ -131,6 +131,7 @@ fn count_item(item: &PassageItem<'_>) -> Option<u64>
     match item {
         PassageItem::Run(words) => statements_in(words),
         PassageItem::Pause => Some(0),
+        PassageItem::Verb { .. } => Some(1),
         PassageItem::Loop { head, body } => count_turns(head, body),
         PassageItem::Choice { choice, branches } => count_choice(kind_of(choice), branches),
         PassageItem::Branch { body, .. } => count_all(Place::Statements, body),
@@ -167,7 +168,7 @@ fn count_looped(item: &PassageItem<'_>) -> Option<u64>
         → most_written_out < looped_front (item_front item.now) p) }
 {
     match item {
-        PassageItem::Run(_) | PassageItem::Pause => Some(0),
+        PassageItem::Run(_) | PassageItem::Pause | PassageItem::Verb { .. } => Some(0),
         PassageItem::Loop { head, body } => count_turns(head, body),
         PassageItem::Choice { choice, branches } => count_loops(
             Place::Branches(kind_of(choice)),
@@ -280,7 +281,11 @@ fn is_opening(token: &Token) -> bool
 {
     match passage_word(token) {
         Some(PassageWord::Perform) | Some(PassageWord::If) | Some(PassageWord::Evaluate) => true,
-        Some(PassageWord::EndPerform) | Some(PassageWord::Continue) | None => false,
+        Some(PassageWord::EndPerform)
+        | Some(PassageWord::Continue)
+        | Some(PassageWord::Set)
+        | Some(PassageWord::Initialize)
+        | None => false,
     }
 }
 
@@ -307,6 +312,8 @@ fn is_choice(token: &Token) -> bool
         Some(PassageWord::Perform)
         | Some(PassageWord::EndPerform)
         | Some(PassageWord::Continue)
+        | Some(PassageWord::Set)
+        | Some(PassageWord::Initialize)
         | None => false,
     }
 }

@@ -41,6 +41,8 @@ fn loop_edge(word: Option<PassageWord>) -> Option<Edge>
         Some(PassageWord::Continue) => None,
         Some(PassageWord::If) => None,
         Some(PassageWord::Evaluate) => None,
+        Some(PassageWord::Set) => None,
+        Some(PassageWord::Initialize) => None,
         None => None,
     }
 }
@@ -55,6 +57,8 @@ fn if_opening(word: PassageWord) -> Option<Edge>
         PassageWord::EndPerform => None,
         PassageWord::Continue => None,
         PassageWord::Evaluate => None,
+        PassageWord::Set => None,
+        PassageWord::Initialize => None,
     }
 }
 
@@ -68,6 +72,8 @@ fn evaluate_opening(word: PassageWord) -> Option<Edge>
         PassageWord::EndPerform => None,
         PassageWord::Continue => None,
         PassageWord::If => None,
+        PassageWord::Set => None,
+        PassageWord::Initialize => None,
     }
 }
 

@@ -1,18 +1,18 @@
 //! What stands in front of a passage.
 
-ghost use Rattle.std.specs.Prelude.{◌≡◌, ◌↔◌, ◌∷◌, ◌++◌, false, List, Some, IfNone, IfSome, IsTrue};
+ghost use Rattle.std.specs.Prelude.{◌≡◌, ◌↔◌, ◌∷◌, ◌++◌, ℕ, false, List, Some, IfNone, IfSome, IsTrue};
 ghost use Rattle.std.specs.List.{AllByRecursion};
 ghost use Rattle.cob_source.specs.Tokens.{Lexeme, lexeme, lexemes};
 ghost use Rattle.cob_move_loops.specs.Words.{IsNoPeriod, IsOther, PassageWordFirst};
-ghost use Rattle.cob_move_loops.specs.Passages.{APause, ARun, AreBranches, BoundEnds, BranchesBegin, Chosen, FrontAt, FrontStands, IsLoopBody, IsRun, Looped, PassageFront, TestFirst, WrittenChoice, WrittenLoop, kind_of, open_behind};
+ghost use Rattle.cob_move_loops.specs.Passages.{APause, ARun, AreBranches, BoundEnds, BranchesBegin, Chosen, FrontAt, FrontStands, IsLoopBody, IsRun, Looped, PassageFront, TestFirst, WrittenChoice, WrittenLoop, kind_of, open_behind, Worded, verb_word};
 ghost use Rattle.cob_move_loops.specs.Reading.{AnswersFront, item_front, written_bound, written_choice};
 
 use crate::choice::{branch_at, choice_head_at, is_test_word, kind_of, next_when};
 use crate::edges::{Pair, body_at};
-use crate::head::head_at;
-use crate::parts::{BranchTest, Choice, Loop, LoopBound, Place};
+use crate::head::{head_at, item_words_at};
+use crate::parts::{BranchTest, Choice, Loop, LoopBound, Place, Verb};
 use crate::stops::{behind_stops, is_stop};
-use crate::words::{PassageWord, behind_passage_word, passage_word};
+use crate::words::{PassageWord, behind_passage_word, first_line, passage_word};
 use cob_copybook_clauses::{WordClass, front, is_term};
 use cob_source::Token;
 
@@ -23,6 +23,12 @@ pub enum PassageItem<'a> {
     Run(&'a [Token]),
     /// CONTINUE.
     Pause,
+    /// SET or INITIALIZE on this line, with the words behind it.
+    Verb {
+        line: u32,
+        verb: Verb,
+        words: &'a [Token],
+    },
     /// A loop with the words of its statements.
     Loop {
         head: Loop<'a>,
@@ -100,6 +106,37 @@ fn pause_at(words: &[Token]) -> Option<(PassageItem<'_>, &[Token])>
 {
     let rest = behind_passage_word(words, PassageWord::Continue)?;
     Some((PassageItem::Pause, behind_stops(rest)))
+}
+
+/// The word that SET or INITIALIZE is.
+fn verb_word(verb: Verb) -> PassageWord
+    ensures { result ≡ verb_word verb }
+{
+    match verb {
+        Verb::Set => PassageWord::Set,
+        Verb::Initialize => PassageWord::Initialize,
+    }
+}
+
+/// SET or INITIALIZE in front with the words behind it, and what is behind these and their periods.
+fn verb_at(words: &[Token], verb: Verb) -> Option<(PassageItem<'_>, &[Token])>
+    ensures found { IfSome result
+        (λ r. FrontStands (item_front r.0) (lexemes words.now) (lexemes r.1.now)) }
+    ensures only { (line : ℕ) (own more : List Lexeme)
+        → FrontStands (Worded line verb own) (lexemes words.now) more
+        → AnswersFront result (Worded line verb own) more }
+{
+    let line = first_line(words);
+    let rest = behind_passage_word(words, verb_word(verb))?;
+    let (own, left) = item_words_at(rest);
+    Some((
+        PassageItem::Verb {
+            line,
+            verb,
+            words: own,
+        },
+        behind_stops(left),
+    ))
 }
 
 /// Whether no period is among words.
@@ -198,6 +235,8 @@ pub fn item_at(words: &[Token]) -> Option<(PassageItem<'_>, &[Token])>
         Some(PassageWord::Perform) => loop_at(words),
         Some(PassageWord::Continue) => pause_at(words),
         Some(PassageWord::If) | Some(PassageWord::Evaluate) => choice_at(words),
+        Some(PassageWord::Set) => verb_at(words, Verb::Set),
+        Some(PassageWord::Initialize) => verb_at(words, Verb::Initialize),
         Some(PassageWord::EndPerform) => None,
     }
 }

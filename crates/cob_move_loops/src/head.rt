@@ -121,7 +121,7 @@ fn behind_item_word(words: &[Token]) -> Option<&[Token]>
 }
 
 /// The words in front that may be those of a reference, as many as there are, and what is behind them.
-fn item_words_at(words: &[Token]) -> (&[Token], &[Token])
+pub(crate) fn item_words_at(words: &[Token]) -> (&[Token], &[Token])
     ensures are { AllByRecursion IsItemWord (lexemes result.0.now) }
     ensures found { lexemes words.now ≡ lexemes result.0.now ++ lexemes result.1.now }
     ensures ends { NoItemWord (lexemes result.1.now) }

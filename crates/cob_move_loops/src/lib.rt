@@ -52,7 +52,7 @@ pub use counting::{choice_line, is_few, is_shallow, opening_line};
 pub use front::{PassageItem, item_at, item_in};
 pub use laws::{breaks_none, no_turn, one_passage};
 pub use naming::{LoopFault, loops};
-pub use parts::{BranchTest, Choice, ChoiceKind, Loop, LoopBound, Place};
+pub use parts::{BranchTest, Choice, ChoiceKind, Loop, LoopBound, Place, Verb};
 pub use stops::{behind_stop, behind_stops, is_stop};
 pub use turn::{Counter, in_turn};
 pub use words::{PassageWord, first_line, is_that_word, passage_word};

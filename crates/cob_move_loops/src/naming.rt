@@ -122,7 +122,7 @@ fn add_item<'a>(
         (IsClash (ClashesInFront (written_loops around.now) (item_front item.now))) }
 {
     match item {
-        PassageItem::Run(_) | PassageItem::Pause => Ok(()),
+        PassageItem::Run(_) | PassageItem::Pause | PassageItem::Verb { .. } => Ok(()),
         PassageItem::Loop { head, body } => add_loop(alloc, head, body, around, out),
         PassageItem::Choice { choice, branches } => {
             add_loops(

@@ -27,6 +27,15 @@ pub struct Loop<'a> {
     pub ghost steps: { 0 < by },
 }
 
+/// A statement other than MOVE that means moves.
+#[derive(Clone, Copy, PartialEq, Eq)]
+pub enum Verb {
+    /// SET.
+    Set,
+    /// INITIALIZE.
+    Initialize,
+}
+
 /// A kind of choice.
 #[derive(Clone, Copy, PartialEq, Eq)]
 pub enum ChoiceKind {

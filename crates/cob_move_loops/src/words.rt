@@ -20,6 +20,10 @@ pub enum PassageWord {
     If,
     /// EVALUATE.
     Evaluate,
+    /// SET.
+    Set,
+    /// INITIALIZE.
+    Initialize,
 }
 
 /// A word of the branches of a choice. Within an IF or an EVALUATE it is one, elsewhere a word as others are.
@@ -53,6 +57,12 @@ fn passage_word_in(text: &[u8]) -> Option<PassageWord>
     }
     if text == b"EVALUATE".as_slice() {
         return Some(PassageWord::Evaluate);
+    }
+    if text == b"SET".as_slice() {
+        return Some(PassageWord::Set);
+    }
+    if text == b"INITIALIZE".as_slice() {
+        return Some(PassageWord::Initialize);
     }
     None
 }

@@ -149,7 +149,7 @@ fn write_item<'a>(
 {
     match item {
         PassageItem::Run(words) => push_run(alloc, words, turn, out),
-        PassageItem::Pause => Ok(()),
+        PassageItem::Pause | PassageItem::Verb { .. } => Ok(()),
         PassageItem::Loop { head, body } => write_turns(alloc, head, body, turn, out),
         PassageItem::Choice { choice, branches } => {
             write_all(alloc, Place::Branches(kind_of(choice)), branches, turn, out)
