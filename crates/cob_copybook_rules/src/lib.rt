@@ -59,3 +59,4 @@ mod values;
 pub use judge::judge_lengths;
 pub use laws::breaks_no_length_rule;
 pub use rules::{breaks_no_rule, judge_clauses};
+pub use values::is_value_for;

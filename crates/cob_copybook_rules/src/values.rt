@@ -39,8 +39,8 @@ fn is_character_value(entry: &Node, value: &Value) -> bool
     }
 }
 
-/// Whether an entry takes the value.
-fn is_value_for(entry: &Node, value: &Value) -> bool
+/// Whether an entry takes the value as its VALUE.
+pub fn is_value_for(entry: &Node, value: &Value) -> bool
     ensures yes { IsTrue result → TakesValue (node entry.now) (plain_value value.now) }
     ensures must { TakesValue (node entry.now) (plain_value value.now) → IsTrue result }
 {

@@ -1,6 +1,8 @@
 -- What follows from the definitions, said as laws.
 use Rattle.std.specs.Prelude.{◌≡◌, List}
 use Rattle.cob_source.specs.Tokens.{Lexeme}
+use Rattle.cob_move_loops.specs.declared.parts.Verb.{Verb}
+use Rattle.cob_move_statements.specs.Verbs.{IsVerbSpelled}
 use Rattle.cob_move_statements.specs.Written.{WrittenReference, WrittenStatement}
 use Rattle.cob_move_statements.specs.Statements.{IsEndedStatement, IsParagraph, IsReference, Several}
 
@@ -15,3 +17,7 @@ OneListOfEnded = (ws : List Lexeme) (a b : List WrittenStatement) → Several Is
 -- law: words are one reference at most
 abbrev pub OneReference : Type 0
 OneReference = (ws : List Lexeme) (a b : WrittenReference) → IsReference a ws → IsReference b ws → a ≡ b
+
+-- law: the words behind SET or INITIALIZE are one list of references at most
+abbrev pub OneListOfReferences : Type 0
+OneListOfReferences = (v : Verb) (ws : List Lexeme) (a b : List WrittenReference) → IsVerbSpelled v a ws → IsVerbSpelled v b ws → a ≡ b

@@ -1,0 +1,4 @@
+pub mod Items
+pub mod Verbs
+pub mod Reading
+pub mod Laws
