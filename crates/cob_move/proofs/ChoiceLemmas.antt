@@ -23,7 +23,7 @@ use Rattle.cob_move_loops.specs.declared.parts.ChoiceKind.{ChoiceKind}
 use Rattle.cob_move_loops.specs.declared.parts.ChoiceKind.TheVariants as kind
 use Rattle.cob_move_loops.specs.declared.parts.Place.TheVariants as standing
 use Rattle.cob_move_loops.specs.declared.words.BranchWord.TheVariants as branch
-use Rattle.cob_move_loops.specs.Passages.{ABranch, AChoice, ALoop, AnEvaluate, AnIf, BranchEnds, BranchesBegin, Branched, FrontAt, IsPassage, IsPassageAt, Moves, NextWhen, NoMore, Otherwise, Passage, PassageFront, Pause, TestFirst, Tested, WrittenChoice, WrittenTest, kind_of}
+use Rattle.cob_move_loops.specs.Passages.{ABranch, AChoice, ALoop, AnEvaluate, AnIf, BranchEnds, BranchesBegin, Branched, FrontAt, IsPassage, IsPassageAt, Moves, NextWhen, NoMore, Otherwise, Passage, PassageFront, Pause, TestFirst, Tested, WrittenChoice, WrittenTest, kind_of, AVerb}
 use Rattle.cob_move_loops.proofs.PassageLemmas.{IsOnlyFront, Parted, nothing_left, parted, shorter}
 use Rattle.cob_move_loops.specs.Turns.{Counted}
 use Rattle.cob_move_statements.specs.declared.fault.MoveRule.TheVariants as rule
@@ -57,6 +57,7 @@ pub begins_tested : (c : WrittenChoice) (p : Passage) (ws : List Lexeme) → Bra
 begins_tested c NoMore ws begin e = absurd (none_begins c (subst (BranchesBegin c) e begin))
 begins_tested c (Moves own more) ws begin is = absurd is
 begins_tested c (Pause more) ws begin is = absurd is
+begins_tested c (AVerb line v own more) ws begin is = absurd is
 begins_tested c (ALoop l body more) ws begin is = absurd is
 begins_tested c (AChoice d branches more) ws begin is = absurd is
 begins_tested c (ABranch (Tested test) own others) ws begin is = tt
@@ -413,6 +414,7 @@ pub none_in_branches : (e : Entries) (ns : List Counted) (a : Against) (p : Pass
 none_in_branches e ns a NoMore = refl
 none_in_branches e ns a (Moves own more) = refl
 none_in_branches e ns a (Pause more) = refl
+none_in_branches e ns a (AVerb line v own more) = refl
 none_in_branches e ns a (ALoop l body more) = refl
 none_in_branches e ns a (AChoice c branches more) = refl
 none_in_branches e ns a (ABranch (Tested ws) own others) = inl refl

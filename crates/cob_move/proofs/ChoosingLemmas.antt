@@ -9,7 +9,7 @@ use Rattle.cob_move_loops.specs.declared.front.PassageItem.TheVariants as item
 use Rattle.cob_move_loops.specs.declared.parts.BranchTest.{BranchTest}
 use Rattle.cob_move_loops.specs.declared.parts.BranchTest.TheVariants as test
 use Rattle.cob_move_loops.specs.declared.parts.ChoiceKind.{ChoiceKind}
-use Rattle.cob_move_loops.specs.Passages.{APause, ARun, Branched, Chosen, FrontAt, FrontStands, IsPassage, Looped, Otherwise, Passage, PassageFront}
+use Rattle.cob_move_loops.specs.Passages.{APause, ARun, Branched, Chosen, FrontAt, FrontStands, IsPassage, Looped, Otherwise, Passage, PassageFront, Worded}
 use Rattle.cob_move_loops.specs.Reading.{Within, item_front, written_test}
 use Rattle.cob_move_loops.proofs.PassageLemmas.{IsOnlyFront, Parted, joined, nothing_left, parted}
 use Rattle.cob_move_loops.specs.Passages.{WrittenChoice, line_of}
@@ -31,6 +31,7 @@ use Rattle.cob_move.proofs.SomeLemmas.{right}
 choice_joined : (f : PassageFront) (body others : Passage) → has_choice (joined f body others) ≡ (choice_in_front f body || has_choice others)
 choice_joined (ARun ws) body others = refl
 choice_joined APause body others = refl
+choice_joined (Worded line v ws) body others = refl
 choice_joined (Looped l ws) body others = refl
 choice_joined (Chosen c ws) body others = refl
 choice_joined (Branched t ws) body others = refl
@@ -66,6 +67,7 @@ choices_end words rest left none p is =
 pub never_other : (k : ChoiceKind) (i : PassageItem) (words more : List Lexeme) → FrontAt (standing.Branches k) (item_front i) words more → ((t : BranchTest) (body : Bor (List Token)) → i ≡ item.Branch t body → ⊥) → ⊥
 never_other k (item.Run own) words more is never = is
 never_other k item.Pause words more is never = is
+never_other k (item.Verb line v words_of) words more is never = is
 never_other k (item.Loop head body) words more is never = is
 never_other k (item.Choice c branches) words more is never = is
 never_other k (item.Branch t body) words more is never = never t body refl

@@ -1,4 +1,5 @@
 -- What a passage comes to in a turn is one thing; and what comes to something is refused for want of memory alone.
+use Rattle.cob_move_verbs.specs.Laws.{OneVerbMeant, VerbsBreakNoRule}
 use Rattle.std.proofs.Common.{◌≡◌, ◌⊎◌, ℕ, zero, suc, ◌+◌, ◌-◌, ◌*◌, ◌/◌, ◌<◌, ◌≤◌, Bool, false, nat_lt, inl, inr, List, [], ◌∷◌, ◌++◌, length, refl, sym, ap, subst, ◌∙◌, arith, Option, Some, None}
 use Rattle.std.specs.Prelude.{if◌then◌else◌}
 use Rattle.std.proofs.Math.Nat.{div-mul-le_self, suc-mul}
@@ -19,7 +20,7 @@ use Rattle.cob_move_names.specs.Valued.{ValuedEntry}
 use Rattle.cob_move.specs.Joined.{before_deeds, joined_deeds}
 use Rattle.cob_move_deeds.specs.Tests.{Holds, IsBoundItem, Past, Test, Until, with_number}
 use Rattle.cob_move_deeds.specs.Turns.{turns_from}
-use Rattle.cob_move_loops.specs.Passages.{ABranch, AChoice, ALoop, Moves, NoMore, Otherwise, Passage, Pause, Tested, ToItem, ToNumber, WrittenBound, WrittenLoop}
+use Rattle.cob_move_loops.specs.Passages.{ABranch, AChoice, ALoop, Moves, NoMore, Otherwise, Passage, Pause, Tested, ToItem, ToNumber, WrittenBound, WrittenLoop, AVerb}
 use Rattle.cob_move_loops.specs.Turns.{Counted, counter_at, in_turn, turns_between}
 use Rattle.cob_move_names.specs.Candidates.{Candidate, all_entries}
 use Rattle.cob_move_names.specs.Laws.{NamedBreakNoRule, OneNamed}
@@ -139,7 +140,7 @@ loop_one reference named all ns l (ToItem ws) meant one f g count other d e m n 
 
 -- what tests are held against, and what they mean, is one thing
 abbrev pub TestsAreOne : Type 0
-TestsAreOne = OneSubject × OneBranchTest
+TestsAreOne = OneSubject × OneBranchTest × OneVerbMeant
 
 pub deeds_one_at : (values : List (Bearer ValuedEntry)) → OneListOfEnded → OneMeant → OneReference → OneNamed → TestsAreOne → (all : List Candidate) (input output : Forest Resolved) (ns : List Counted) (at : Standing) (waiting : Option Condition) (p : Passage) (d e : Deeds Test) (m n : ℕ)
     → AreDeedsAt values all input output ns at waiting p d m → AreDeedsAt values all input output ns at waiting p e n → (d ≡ e) × (m ≡ n)
@@ -152,6 +153,12 @@ deeds_one_at values ended meant reference named tests all input output ns InStat
     )
 deeds_one_at values ended meant reference named tests all input output ns InStatements waiting (Pause more) d e m n p q =
     deeds_one_at values ended meant reference named tests all input output ns InStatements None more d e m n p q
+deeds_one_at values ended meant reference named tests all input output ns InStatements waiting (AVerb line v own more) d e m n (ms, next, rest, verb, are, d_is, m_is) (sm, txen, tser, brev, era, e_is, n_is) =
+    let first : ms ≡ sm = tests.2 (record { input = input; output = output }) values v (in_turn ns false 0 own) ms sm verb brev in
+    let behind = deeds_one_at values ended meant reference named tests all input output ns InStatements None more next txen rest tser are era in (
+      d_is ∙ ap (λ (t : List Move). before_deeds t next) first ∙ ap (λ (k : Deeds Test). before_deeds sm k) behind.0 ∙ sym e_is,
+      omega (arith, m_is, n_is, ap length first, behind.1),
+    )
 deeds_one_at values ended meant reference named tests all input output ns InStatements waiting (ALoop l body more) d e m n (f, count, own, next, turned, rest, loop, are, d_is, m_is) (g, other, nwo, txen, denrut, tser, pool, era, e_is, n_is) =
     let turns = loop_one reference named all ns l l.bound (λ i k c. AreDeeds values all input output (ns ++ counter_at l i ∷ []) body k c)
     (λ i a b x y p q. deeds_one_at values ended meant reference named tests all input output (ns ++ counter_at l i ∷ []) InStatements None body a b x y p q) f g count other own nwo turned denrut loop pool in
@@ -170,6 +177,7 @@ deeds_one_at values ended meant reference named tests all input output ns InStat
 deeds_one_at values ended meant reference named tests all input output ns InStatements waiting (ABranch t own others) d e m n p q = absurd p
 deeds_one_at values ended meant reference named tests all input output ns (InBranches a) waiting (Moves own more) d e m n p q = absurd p
 deeds_one_at values ended meant reference named tests all input output ns (InBranches a) waiting (Pause more) d e m n p q = absurd p
+deeds_one_at values ended meant reference named tests all input output ns (InBranches a) waiting (AVerb line v own more) d e m n p q = absurd p
 deeds_one_at values ended meant reference named tests all input output ns (InBranches a) waiting (ALoop l body more) d e m n p q = absurd p
 deeds_one_at values ended meant reference named tests all input output ns (InBranches a) waiting (AChoice c branches more) d e m n p q = absurd p
 deeds_one_at values ended meant reference named tests all input output ns (InBranches a) waiting (ABranch Otherwise own others) d e m n p q =
@@ -241,7 +249,7 @@ loop_refused reference named none f all ns l (ToItem ws) meant refused never g c
 
 -- what tests are held against, and what they mean, breaks no rule, and is one thing
 abbrev pub TestsAreUnbroken : Type 0
-TestsAreUnbroken = SubjectsBreakNoRule × BranchTestsBreakNoRule × OneSubject
+TestsAreUnbroken = SubjectsBreakNoRule × BranchTestsBreakNoRule × OneSubject × VerbsBreakNoRule
 
 deeds_unrefused_at : (values : List (Bearer ValuedEntry)) → OneListOfEnded → MeantBreakNoRule → OneReference → OneNamed → NamedBreakNoRule → TestsAreUnbroken → (f : MoveFault) (input output : Forest Resolved) (ns : List Counted) (at : Standing) (waiting : Option Condition) (p : Passage) (d : Deeds Test) (m : ℕ)
     → AreDeedsAt values (all_entries input output) input output ns at waiting p d m → IsTurnRefusedAt values f (all_entries input output) input output ns at p → f.rule ≡ rule.Memory
@@ -252,6 +260,10 @@ deeds_unrefused_at values ended unbroken reference named none tests f input outp
     deeds_unrefused_at values ended unbroken reference named none tests f input output ns InStatements None more next rest are behind
 deeds_unrefused_at values ended unbroken reference named none tests f input output ns InStatements waiting (Pause more) d m are refused =
     deeds_unrefused_at values ended unbroken reference named none tests f input output ns InStatements None more d m are refused
+deeds_unrefused_at values ended unbroken reference named none tests f input output ns InStatements waiting (AVerb line v own more) d m (ms, next, rest, verb, are, d_is, m_is) (inl broken) =
+    absurd (tests.3 f.rule (record { input = input; output = output }) values v (in_turn ns false 0 own) ms verb broken.0)
+deeds_unrefused_at values ended unbroken reference named none tests f input output ns InStatements waiting (AVerb line v own more) d m (ms, next, rest, verb, are, d_is, m_is) (inr behind) =
+    deeds_unrefused_at values ended unbroken reference named none tests f input output ns InStatements None more next rest are behind
 deeds_unrefused_at values ended unbroken reference named none tests f input output ns InStatements waiting (ALoop l body more) d m (g, count, own, next, turned, rest, loop, are, d_is, m_is) (inl broken) =
     loop_refused reference named none f (all_entries input output) ns l l.bound (λ i k c. AreDeeds values (all_entries input output) input output (ns ++ counter_at l i ∷ []) body k c)
     (λ i. IsTurnRefused values f (all_entries input output) input output (ns ++ counter_at l i ∷ []) body)
@@ -268,6 +280,7 @@ deeds_unrefused_at values ended unbroken reference named none tests f input outp
 deeds_unrefused_at values ended unbroken reference named none tests f input output ns InStatements waiting (ABranch t own others) d m are refused = absurd are
 deeds_unrefused_at values ended unbroken reference named none tests f input output ns (InBranches a) waiting (Moves own more) d m are refused = absurd are
 deeds_unrefused_at values ended unbroken reference named none tests f input output ns (InBranches a) waiting (Pause more) d m are refused = absurd are
+deeds_unrefused_at values ended unbroken reference named none tests f input output ns (InBranches a) waiting (AVerb line v own more) d m are refused = absurd are
 deeds_unrefused_at values ended unbroken reference named none tests f input output ns (InBranches a) waiting (ALoop l body more) d m are refused = absurd are
 deeds_unrefused_at values ended unbroken reference named none tests f input output ns (InBranches a) waiting (AChoice c branches more) d m are refused = absurd are
 deeds_unrefused_at values ended unbroken reference named none tests f input output ns (InBranches a) waiting (ABranch Otherwise own others) d m are refused =

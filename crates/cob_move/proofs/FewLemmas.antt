@@ -7,7 +7,7 @@ use Rattle.cob_move_deeds.specs.Deeds.{Deeds, Moving, Nothing}
 use Rattle.cob_move_deeds.specs.Tests.{Test}
 use Rattle.cob_move_loops.specs.Bounded.{AreBounded}
 use Rattle.cob_move_loops.specs.Few.{statements_of}
-use Rattle.cob_move_loops.specs.Passages.{ALoop, APause, ARun, Branched, Chosen, IsPassage, Looped, Moves, NoMore, Passage, PassageFront, Pause, ToItem, ToNumber, WrittenBound, WrittenLoop}
+use Rattle.cob_move_loops.specs.Passages.{ALoop, APause, ARun, Branched, Chosen, IsPassage, Looped, Moves, NoMore, Passage, PassageFront, Pause, ToItem, ToNumber, WrittenBound, WrittenLoop, Worded}
 use Rattle.cob_move_loops.specs.Turns.{Counted, in_turn, turns_between}
 use Rattle.cob_move_loops.proofs.PassageLemmas.{joined}
 use Rattle.cob_move_names.specs.Candidates.{Candidate, all_entries}
@@ -38,6 +38,8 @@ comes_joined e ns (ARun ws) body others own d count m (ms, meant, e_is) is =
 comes_joined e ns APause body others own d count m (e_is, none) is =
     subst (λ (n : ℕ). PassageComesTo e ns others (joined_deeds own d) n) (omega (arith, none))
     (subst (λ (k : Deeds Test). PassageComesTo e ns others (joined_deeds k d) m) (sym e_is) is)
+comes_joined e ns (Worded line v ws) body others own d count m (ms, meant, e_is, many) is =
+    (ms, d, m, meant, is, ap (λ (k : Deeds Test). joined_deeds k d) e_is, ap (λ (k : ℕ). k + m) many)
 comes_joined e ns (Looped l ws) body others own d count m (f, counted, loop) is = (f, counted, own, d, count, m, loop, is, refl, refl)
 comes_joined e ns (Chosen c ws) body others own d count m (a, inside, held, branches, count_is) is = (a, own, d, inside, m, held, branches, is, refl, ap (λ (k : ℕ). k + m) count_is)
 comes_joined e ns (Branched t ws) body others own d count m comes is = absurd comes
@@ -45,6 +47,7 @@ comes_joined e ns (Branched t ws) body others own d count m comes is = absurd co
 pub refused_joined : (g : MoveFault) (e : Entries) (ns : List Counted) (f : PassageFront) (body others : Passage) → FrontIsRefused g e ns f body → IsRefusedIn g e ns (joined f body others)
 refused_joined g e ns (ARun ws) body others refused = inl refused
 refused_joined g e ns APause body others refused = absurd refused
+refused_joined g e ns (Worded line v ws) body others refused = inl refused
 refused_joined g e ns (Looped l ws) body others refused = inl refused
 refused_joined g e ns (Chosen c ws) body others refused = inl refused
 refused_joined g e ns (Branched t ws) body others refused = absurd refused
@@ -98,6 +101,8 @@ first_parts : (e : Entries) (ns : List Counted) (f : PassageFront) (body others 
 first_parts e ns (ARun ws) body others m (inl none) = inl none
 first_parts e ns (ARun ws) body others m (inr (ms, count, rest, run, first, is)) = inr (inr (Moving ms Nothing, count, rest, (ms, run, refl), first, is))
 first_parts e ns APause body others m first = inr (inr (Nothing, 0, m, (refl, refl), first, omega arith))
+first_parts e ns (Worded line v ws) body others m (inl none) = inl none
+first_parts e ns (Worded line v ws) body others m (inr (ms, rest, meant, first, is)) = inr (inr (Moving ms Nothing, length ms, rest, (ms, meant, refl, refl), first, is))
 first_parts e ns (Looped l ws) body others m (inl none) = inl none
 first_parts e ns (Looped l ws) body others m (inr (inl within)) = inr (inl within)
 first_parts e ns (Looped l ws) body others m (inr (inr (f, count, own, turned, rest, loop, first, is))) = inr (inr (own, turned, rest, (f, count, loop), first, is))

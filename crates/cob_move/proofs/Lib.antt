@@ -34,3 +34,4 @@ mod BodyLemmas
 mod ReadyLemmas
 mod JoinedLemmas
 mod BoundLemmas
+mod VerbLemmas

@@ -10,7 +10,7 @@ use Rattle.cob_move_data.specs.Moves.{Move}
 use Rattle.cob_move_deeds.specs.Deeds.{Deeds, Moving, Nothing}
 use Rattle.cob_move_deeds.specs.Tests.{Test}
 use Rattle.cob_move_loops.specs.Bounded.{AreBounded, IsBounded}
-use Rattle.cob_move_loops.specs.Passages.{ABranch, AChoice, ALoop, IsHead, IsPassage, IsRun, Moves, NoMore, Passage, Pause, ToItem, ToNumber, WrittenBound, WrittenLoop}
+use Rattle.cob_move_loops.specs.Passages.{ABranch, AChoice, ALoop, IsHead, IsPassage, IsRun, Moves, NoMore, Passage, Pause, ToItem, ToNumber, WrittenBound, WrittenLoop, AVerb}
 use Rattle.cob_move_loops.specs.Turns.{Counted, counter_at, in_turn, turns, turns_between, turns_of, turns_up_to, words_by_turn}
 use Rattle.cob_move_names.specs.Candidates.{Candidate, all_entries}
 use Rattle.cob_move_statements.specs.declared.fault.MoveFault.{MoveFault}
@@ -44,6 +44,7 @@ pub literal_bounded : (p : Passage) → IsLiteral p → AreBounded p
 literal_bounded NoMore all = tt
 literal_bounded (Moves own more) all = literal_bounded more all
 literal_bounded (Pause more) all = literal_bounded more all
+literal_bounded (AVerb line v own more) all = absurd all
 literal_bounded (ALoop l body more) all =
     (number_bounded l.bound l.counter body all.0, literal_bounded body (literal_within l body more all), literal_bounded more (literal_behind l body more all))
 literal_bounded (AChoice c branches more) all = absurd all
@@ -209,6 +210,7 @@ literal_comes values input output ns (Moves own more) ws (rest, run, first, e, i
           (done_both k.count k.rest k.first k.behind (Moving k.first Nothing) next (inr (omega (arith, many, some), refl)) done),
     )
 literal_comes values input output ns (Pause more) ws (pause, stops, rest, word, are, e, is) all ms m h = literal_comes values input output ns more rest is all ms m h
+literal_comes values input output ns (AVerb line v own more) ws says all ms m h = absurd all
 literal_comes values input output ns (ALoop l body more) ws (head, own, stops, rest, end, h, b, inner, word, are, e, is) all ms m g =
     let out : ℕ → List (List Lexeme) = λ i. words_by_turn (ns ++ counter_at l i ∷ []) body in
     let meant : ℕ → Deeds Test → ℕ → Type 0 = λ i d c. AreDeeds values (all_entries input output) input output (ns ++ counter_at l i ∷ []) body d c in
@@ -275,6 +277,7 @@ comes_literal values input output ns (Moves own more) ws (rest, run, first, e, i
     means_as input output (words ∷ words_by_turn ns more) (before_deeds ms next) d (count + others) m (sym d_is) (sym m_is)
     (means_both input output (words ∷ []) (words_by_turn ns more) (Moving ms Nothing) next count others one (comes_literal values input output ns more rest is all next others are))
 comes_literal values input output ns (Pause more) ws (pause, stops, rest, word, are, e, is) all d m h = comes_literal values input output ns more rest is all d m h
+comes_literal values input output ns (AVerb line v own more) ws says all d m h = absurd all
 comes_literal values input output ns (ALoop l body more) ws (head, within, stops, rest, end, h, b, inner, word, are, e, is) all d m (f, count, own, next, turned, others, loop, behind, d_is, m_is) =
     let out : ℕ → List (List Lexeme) = λ i. words_by_turn (ns ++ counter_at l i ∷ []) body in
     let first = loop_means (all_entries input output) ns l l.bound (λ i k c. AreDeeds values (all_entries input output) input output (ns ++ counter_at l i ∷ []) body k c) out input output all.0
@@ -319,6 +322,7 @@ runs_turn_refused values f all input output ns NoMore literal h = absurd h
 runs_turn_refused values f all input output ns (Moves own more) literal (inl here) = inl here
 runs_turn_refused values f all input output ns (Moves own more) literal (inr there) = inr (runs_turn_refused values f all input output ns more literal there)
 runs_turn_refused values f all input output ns (Pause more) literal h = runs_turn_refused values f all input output ns more literal h
+runs_turn_refused values f all input output ns (AVerb line v own more) literal h = absurd literal
 runs_turn_refused values f all input output ns (ALoop l body more) literal h =
     let out : ℕ → List (List Lexeme) = λ i. words_by_turn (ns ++ counter_at l i ∷ []) body in
     elim (some_parts (RunIsRefused f all input output) (turns out l.by (turns_of l) l.from) (words_by_turn ns more) h) [

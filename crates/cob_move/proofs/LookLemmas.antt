@@ -5,7 +5,7 @@ use Rattle.cob_limits.specs.Limits.{most_written_out}
 use Rattle.cob_source.specs.Tokens.{Lexeme}
 use Rattle.cob_move_deeds.specs.Deeds.{Deeds}
 use Rattle.cob_move_deeds.specs.Tests.{Test}
-use Rattle.cob_move_loops.specs.Passages.{APause, ARun, Branched, Chosen, FrontStands, IsPassage, Looped, Passage, PassageFront, ToItem, ToNumber, WrittenBound, WrittenLoop}
+use Rattle.cob_move_loops.specs.Passages.{APause, ARun, Branched, Chosen, FrontStands, IsPassage, Looped, Passage, PassageFront, ToItem, ToNumber, WrittenBound, WrittenLoop, Worded}
 use Rattle.cob_move_loops.specs.Reading.{Within}
 use Rattle.cob_move_loops.specs.Turns.{Counted, in_turn, turns_between}
 use Rattle.cob_move_loops.specs.declared.parts.Place.TheVariants as standing
@@ -97,6 +97,7 @@ look_stops (why.Broken g) e ns words rest more f left some only stops p is =
 deep_joined : (f : PassageFront) (body others : Passage) (n : ℕ) → deep_front f body ≤ n → deep others ≤ n → deep (joined f body others) ≤ n
 deep_joined (ARun ws) body others n front behind = behind
 deep_joined APause body others n front behind = behind
+deep_joined (Worded line v ws) body others n front behind = behind
 deep_joined (Looped l ws) body others n front behind = max-le front behind
 deep_joined (Chosen c ws) body others n front behind = behind
 deep_joined (Branched t ws) body others n front behind = behind
@@ -127,6 +128,7 @@ deep_end most words rest left none p is =
 pub words_smaller : (f : PassageFront) (ws more : List Lexeme) → FrontStands f ws more → words_in_front f < length ws
 words_smaller (ARun own) ws more stands = front_smaller standing.Statements (ARun own) ws more stands
 words_smaller APause ws more stands = front_smaller standing.Statements APause ws more stands
+words_smaller (Worded line v own) ws more stands = front_smaller standing.Statements (Worded line v own) ws more stands
 words_smaller (Looped l own) ws more stands = front_smaller standing.Statements (Looped l own) ws more stands
 words_smaller (Chosen c own) ws more stands = omega (arith, shorter standing.Statements (Chosen c own) ws more stands)
 words_smaller (Branched t own) ws more stands = absurd stands

@@ -11,7 +11,7 @@ use Rattle.cob_copybook_names.specs.Naming.{named}
 use Rattle.cob_copybook_tree.specs.Forests.{Forest}
 use Rattle.cob_copybook_tree.specs.Nodes.{Resolved}
 use Rattle.cob_move_loops.specs.declared.parts.Place.TheVariants as standing
-use Rattle.cob_move_loops.specs.Passages.{ABranch, AChoice, ALoop, IsPassage, Moves, NoMore, Passage, Pause, WrittenLoop}
+use Rattle.cob_move_loops.specs.Passages.{ABranch, AChoice, ALoop, IsPassage, Moves, NoMore, Passage, Pause, WrittenLoop, AVerb}
 use Rattle.cob_move_loops.specs.Few.{Clashes, IsFew, IsShallow, opening_line, loops_of}
 use Rattle.cob_move_loops.specs.Laws.{NoTurn}
 use Rattle.cob_move_loops.specs.Reading.{ClashesIn, all_runs, counters, run_words}
@@ -105,6 +105,7 @@ literal_yes : (p : Passage) → AllByRecursion (λ (l : WrittenLoop). EndsByNumb
 literal_yes NoMore all none = tt
 literal_yes (Moves own more) all none = literal_yes more all none
 literal_yes (Pause more) all none = literal_yes more all none
+literal_yes (AVerb line v own more) all none = absurd (let never : true ≡ false = none in cc)
 literal_yes (ALoop l body more) all none =
     let both = neither (has_choice body) (has_choice more) none in (
       all.0,
@@ -118,6 +119,7 @@ literal_ends : (p : Passage) → IsLiteral p → AllByRecursion (λ (l : Written
 literal_ends NoMore is = tt
 literal_ends (Moves own more) is = literal_ends more is
 literal_ends (Pause more) is = literal_ends more is
+literal_ends (AVerb line v own more) is = absurd is
 literal_ends (ALoop l body more) is = (is.0, all_both (λ (k : WrittenLoop). EndsByNumber k.bound) (loops_of body) (loops_of more) (literal_ends body is.1) (literal_ends more is.2))
 literal_ends (AChoice c branches more) is = absurd is
 literal_ends (ABranch t own others) is = absurd is
@@ -126,6 +128,7 @@ literal_none : (p : Passage) → IsLiteral p → has_choice p ≡ false
 literal_none NoMore is = refl
 literal_none (Moves own more) is = literal_none more is
 literal_none (Pause more) is = literal_none more is
+literal_none (AVerb line v own more) is = absurd is
 literal_none (ALoop l body more) is = ap (λ (b : Bool). b || has_choice more) (literal_none body is.1) ∙ literal_none more is.2
 literal_none (AChoice c branches more) is = absurd is
 literal_none (ABranch t own others) is = absurd is

@@ -164,7 +164,7 @@ more_made r m own given few is = record {
   few = few;
 }
 
-more_added : (r : Records) (m : MadeLists) (s : StatementMoves) (ss : List StatementMoves) → IsMade r m → (on : FlowSupport) → IsFrontOf (with_more m (s ∷ ss)) on
+pub more_added : (r : Records) (m : MadeLists) (s : StatementMoves) (ss : List StatementMoves) → IsMade r m → (on : FlowSupport) → IsFrontOf (with_more m (s ∷ ss)) on
     → made_deeds r on (with_more m (s ∷ ss)) ≡ joined_deeds (made_deeds r on m) (Moving (moves r (s ∷ ss)) Nothing)
 more_added r m s ss is on f =
     let own = s ∷ ss in

@@ -10,7 +10,7 @@ use Rattle.cob_move_data.specs.Moves.{Move}
 use Rattle.cob_move_deeds.specs.Deeds.{Deeds, Nothing}
 use Rattle.cob_move_deeds.specs.Tests.{IsBoundItem, Past, Test, Until, with_number}
 use Rattle.cob_move_deeds.specs.Turns.{turns_from}
-use Rattle.cob_move_loops.specs.Passages.{ABranch, AChoice, ALoop, AreBoundWords, IsHead, IsPassage, Moves, NoMore, Passage, Pause, ToItem, ToNumber, WrittenBound, WrittenLoop}
+use Rattle.cob_move_loops.specs.Passages.{ABranch, AChoice, ALoop, AreBoundWords, IsHead, IsPassage, Moves, NoMore, Passage, Pause, ToItem, ToNumber, WrittenBound, WrittenLoop, AVerb}
 use Rattle.cob_move_loops.specs.Turns.{Counted, counter_at, in_turn, turns_between}
 use Rattle.cob_move_names.specs.Candidates.{Candidate}
 use Rattle.cob_move_names.specs.References.{NamesOperand}
@@ -146,6 +146,7 @@ plain_so (Pause more) ws (pause, stops, rest, word, periods, cut, is) none plain
     let all = subst HaveNoColon cut none in
     let (here, there) = colons_apart stops rest all.1 in
     plain_so more rest is there plain
+plain_so (AVerb line v own more) ws is none plain = absurd (let never : true ≡ false = plain in cc)
 plain_so (ALoop l body more) ws (head, own, stops, rest, end, begins, inner, is, word, periods, cut, si) none plain =
     let both = neither (has_choice body) (has_choice more) plain in
     let (first, last) = colons_apart head (own ++ end ∷ (stops ++ rest)) (subst HaveNoColon cut none) in
@@ -164,6 +165,7 @@ mixed_deeds values ended one input output all ks bs es (Moves own more) plain d 
     let (others, thirds) = mixed_deeds values ended one input output all ks bs es more plain.0 next txen rest tser mixed are era in
     (before_deeds os others, (os, others, tnuoc, tser, third, thirds, refl, n_is))
 mixed_deeds values ended one input output all ks bs es (Pause more) plain d e m n mixed are era = mixed_deeds values ended one input output all ks bs es more plain d e m n mixed are era
+mixed_deeds values ended one input output all ks bs es (AVerb line v own more) plain d e m n mixed are era = absurd plain
 mixed_deeds values ended one input output all ks bs es (ALoop l body more) plain d e m n mixed (f, count, own, next, turned, rest, loop, are, d_is, m_is) (g, other, nwo, txen, denrut, tser, pool, era, e_is, n_is) =
     let (h, o, third) = mixed_loop one all ks bs es l l.bound (λ i x c. AreDeeds values all input output (ks ++ counter_at l i ∷ []) body x c)
     (λ i x c. AreDeeds values all input output (bs ++ counter_at l i ∷ []) body x c) (λ i x c. AreDeeds values all input output (es ++ counter_at l i ∷ []) body x c) mixed plain.1.1
@@ -185,6 +187,7 @@ mixed_first values ended one input output all ks bs es (Moves own more) plain d 
     let (os, third) = mixed_run ended input output (in_turn ks false 0 own) (in_turn bs false 0 own) (in_turn es false 0 own) ms sm count tnuoc (mixed_in_turn ks bs es false 0 own mixed) (colons_in_turn bs false 0 own plain.1) run nur in
     inr (os, tnuoc, tser, third, mixed_first values ended one input output all ks bs es more plain.0 next rest tser mixed are first, cut)
 mixed_first values ended one input output all ks bs es (Pause more) plain d m many mixed are first = mixed_first values ended one input output all ks bs es more plain d m many mixed are first
+mixed_first values ended one input output all ks bs es (AVerb line v own more) plain d m many mixed are first = absurd plain
 mixed_first values ended one input output all ks bs es (ALoop l body more) plain d m many mixed (f, count, own, next, turned, rest, loop, are, d_is, m_is) (inl none) = inl none
 mixed_first values ended one input output all ks bs es (ALoop l body more) plain d m many mixed (f, count, own, next, turned, rest, loop, are, d_is, m_is) (inr (inl within)) =
     inr (inl (first_loop one all ks bs es l l.bound (λ i x c. AreDeeds values all input output (ks ++ counter_at l i ∷ []) body x c)
@@ -286,6 +289,7 @@ first_within values law ended one input output all ns (Moves own more) plain d m
     run_same : OneListOfEnded → (ws : List Lexeme) (a b : List Move) (c e : ℕ) → IsRunMeant input output ws a c → IsRunMeant input output ws b e → c ≡ e
     run_same ended ws a b c e x y = x.many ∙ ap length (ended ws x.statements y.statements x.spelled y.spelled) ∙ sym y.many
 first_within values law ended one input output all ns (Pause more) plain d m many q low are first = first_within values law ended one input output all ns more plain d m many q low are first
+first_within values law ended one input output all ns (AVerb line v own more) plain d m many q low are first = absurd plain
 first_within values law ended one input output all ns (ALoop l body more) plain d m many zero low are first = absurd (omega (arith, low, le-max_left (deep body + 1) (deep more)))
 first_within values law ended one input output all ns (ALoop l body more) plain d m many (suc q) low (f, count, own, next, turned, rest, loop, are, d_is, m_is) (inl none) = omega (arith, none)
 first_within values law ended one input output all ns (ALoop l body more) plain d m many (suc q) low (f, count, own, next, turned, rest, loop, are, d_is, m_is) (inr (inl within)) =

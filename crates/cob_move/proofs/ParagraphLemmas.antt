@@ -23,7 +23,7 @@ use Rattle.cob_move_names.specs.Candidates.{Candidate, all_entries}
 use Rattle.cob_move_names.specs.Valued.{PlainConditionNames, ValuedEntry, all_values}
 use Rattle.cob_move_loops.specs.Bounded.{AreBounded, IsBounded, LacksBound}
 use Rattle.cob_move_loops.specs.Laws.{BreaksNone, OnePassage}
-use Rattle.cob_move_loops.specs.Passages.{ABranch, AChoice, ALoop, IsPassage, Moves, NoMore, Passage, Pause}
+use Rattle.cob_move_loops.specs.Passages.{ABranch, AChoice, ALoop, IsPassage, Moves, NoMore, Passage, Pause, AVerb}
 use Rattle.cob_move_loops.specs.Turns.{words_by_turn}
 use Rattle.cob_move_tests.specs.declared.entries.Entries.{Entries}
 use Rattle.cob_move_tests.specs.Entries.{AllMayBeNamed, nameable, records_of, valued_in}
@@ -187,6 +187,7 @@ none_lacks : (p : Passage) (line : ℕ) → AreBounded p → LacksBound p line �
 none_lacks NoMore line are lacks = lacks
 none_lacks (Moves own more) line are lacks = none_lacks more line are lacks
 none_lacks (Pause more) line are lacks = none_lacks more line are lacks
+none_lacks (AVerb verb_line v own more) line are lacks = none_lacks more line are lacks
 none_lacks (ALoop l body more) line are (inl own) = own.1 are.0
 none_lacks (ALoop l body more) line are (inr (inl inner)) = none_lacks body line are.1 inner
 none_lacks (ALoop l body more) line are (inr (inr behind)) = none_lacks more line are.2 behind

@@ -13,7 +13,7 @@ use Rattle.cob_move_loops.specs.declared.words.PassageWord.{PassageWord}
 use Rattle.cob_move_loops.specs.declared.words.PassageWord.TheVariants as mark
 use Rattle.cob_move_loops.specs.Few.{AreLoopsApart, Clashes, IsFew, IsShallow, loops_of}
 use Rattle.cob_move_loops.specs.Laws.{BreaksNone, OnePassage}
-use Rattle.cob_move_loops.specs.Passages.{ABranch, AChoice, ALoop, AnEvaluate, AnIf, IsPassage, IsRun, Moves, NoMore, Passage, Pause, WrittenLoop}
+use Rattle.cob_move_loops.specs.Passages.{ABranch, AChoice, ALoop, AnEvaluate, AnIf, IsPassage, IsRun, Moves, NoMore, Passage, Pause, WrittenLoop, AVerb, verb_word}
 use Rattle.cob_move_loops.specs.Words.{IsPassageWord, IsOther}
 use Rattle.cob_move_loops.proofs.PassageLemmas.{head_first}
 use Rattle.cob_move_statements.specs.declared.fault.MoveFault.{MoveFault}
@@ -49,6 +49,7 @@ passage_first : (p : Passage) (ws : List Lexeme) → IsPassage p ws → NoOtherN
 passage_first NoMore ws e = subst NoOtherName (sym e) tt
 passage_first (Moves own more) ws (rest, run, first, e, is) = subst NoOtherName (sym e) (run_first own rest run)
 passage_first (Pause more) ws (pause, stops, rest, word, are, e, is) = subst NoOtherName (sym e) (λ named other. loop_no_other mark.Continue pause word other)
+passage_first (AVerb line v own more) ws (rest, (begins, stops, word, at, items, are, ends, e), is) = subst NoOtherName (sym e) (λ named other. loop_no_other (verb_word v) begins word other)
 passage_first (ALoop l body more) ws (head, own, stops, rest, end, h, b, inner, word, are, e, is) =
     let (w, tail, first, f) = head_first l head h in
     subst NoOtherName (sym (e ∙ ap (λ (t : List Lexeme). t ++ (own ++ end ∷ (stops ++ rest))) f)) (λ named other. loop_no_other mark.Perform w first other)
@@ -149,6 +150,7 @@ pub no_clash : (around : List WrittenLoop) (p : Passage) (line : ℕ) → AreLoo
 no_clash around NoMore line apart clash = clash
 no_clash around (Moves own more) line apart clash = no_clash around more line apart clash
 no_clash around (Pause more) line apart clash = no_clash around more line apart clash
+no_clash around (AVerb verb_line v own more) line apart clash = no_clash around more line apart clash
 no_clash around (ALoop l body more) line apart (inl own_clash) = own_clash.1 apart.0
 no_clash around (ALoop l body more) line apart (inr (inl inner)) = no_clash (around ++ l ∷ []) body line apart.1 inner
 no_clash around (ALoop l body more) line apart (inr (inr behind)) = no_clash around more line apart.2 behind

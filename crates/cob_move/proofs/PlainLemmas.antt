@@ -7,7 +7,7 @@ use Rattle.cob_move_loops.specs.declared.words.PassageWord.{PassageWord}
 use Rattle.cob_move_loops.specs.declared.words.PassageWord.TheVariants as mark
 use Rattle.cob_move_loops.specs.Few.{choices_by, deepest}
 use Rattle.cob_move_loops.specs.Laws.{NoTurn}
-use Rattle.cob_move_loops.specs.Passages.{ABranch, AChoice, ALoop, AnEvaluate, AnIf, IsPassage, IsRun, Moves, NoMore, Passage, Pause, choice_edge, edge_of, loop_edge, open_by}
+use Rattle.cob_move_loops.specs.Passages.{ABranch, AChoice, ALoop, AnEvaluate, AnIf, IsPassage, IsRun, Moves, NoMore, Passage, Pause, choice_edge, edge_of, loop_edge, open_by, AVerb, verb_word}
 use Rattle.cob_move_loops.specs.Turns.{words_by_turn}
 use Rattle.cob_move_loops.specs.Words.{IsPassageWord, IsOther, PassageWordFirst, branch_word}
 use Rattle.cob_move_loops.specs.declared.edges.Pair.TheVariants as pair
@@ -121,6 +121,8 @@ plain_is (Moves own more) ws (rest, run, first, e, is) all some =
     ap (λ (t : List Lexeme). Moves t more) words ∙ ap (λ (d : Passage). Moves ws d) (no_words more rest is none)
 plain_is (Pause more) ws (pause, stops, rest, word, are, e, is) all some =
     absurd (no_passage_word mark.Continue pause word (subst (λ (t : List Lexeme). AllByRecursion IsOther t) e all).0)
+plain_is (AVerb line v own more) ws (rest, (begins, stops, word, at, items, are, ends, e), is) all some =
+    absurd (no_passage_word (verb_word v) begins word (subst (λ (t : List Lexeme). AllByRecursion IsOther t) e all).0)
 plain_is (ALoop l body more) ws (head, own, stops, rest, end, h, b, inner, word, are, e, is) all some =
     let (w, tail, first, f) = head_first l head h in
     let words : ws ≡ w ∷ (tail ++ (own ++ end ∷ (stops ++ rest))) = e ∙ ap (λ (t : List Lexeme). t ++ (own ++ end ∷ (stops ++ rest))) f in

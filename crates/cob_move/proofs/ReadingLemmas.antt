@@ -8,7 +8,7 @@ use Rattle.cob_move_deeds.specs.Deeds.{Deeds, IsStraight, Moving, Nothing, both_
 use Rattle.cob_move_deeds.specs.Flows.{FlowSupport}
 use Rattle.cob_move_deeds.specs.Tests.{Test}
 use Rattle.cob_move_loops.specs.Bounded.{AreBounded, BoundedFront}
-use Rattle.cob_move_loops.specs.Passages.{ABranch, AChoice, ALoop, APause, ARun, Branched, Chosen, FrontStands, IsPassage, Looped, Moves, NoMore, Passage, PassageFront, Pause, WrittenChoice, WrittenLoop, WrittenTest, kind_of}
+use Rattle.cob_move_loops.specs.Passages.{ABranch, AChoice, ALoop, APause, ARun, Branched, Chosen, FrontStands, IsPassage, Looped, Moves, NoMore, Passage, PassageFront, Pause, WrittenChoice, WrittenLoop, WrittenTest, kind_of, AVerb, Worded}
 use Rattle.cob_move_loops.specs.Reading.{Within}
 use Rattle.cob_move_loops.specs.Turns.{Counted}
 use Rattle.cob_move_loops.specs.declared.parts.ChoiceKind.{ChoiceKind}
@@ -58,6 +58,7 @@ pause_added e m is ns p within = record {
 pub refused_behind : (g : MoveFault) (e : Entries) (ns : List Counted) (f : PassageFront) (body others : Passage) → IsRefusedIn g e ns others → IsRefusedIn g e ns (joined f body others)
 refused_behind g e ns (ARun ws) body others refused = inr refused
 refused_behind g e ns APause body others refused = refused
+refused_behind g e ns (Worded line v ws) body others refused = inr refused
 refused_behind g e ns (Looped l ws) body others refused = inr refused
 refused_behind g e ns (Chosen c ws) body others refused = inr refused
 refused_behind g e ns (Branched t ws) body others refused = refused
@@ -66,6 +67,7 @@ pub none_first : (e : Entries) (ns : List Counted) (p : Passage) → FirstIn e n
 none_first e ns NoMore = refl
 none_first e ns (Moves own more) = inl refl
 none_first e ns (Pause more) = none_first e ns more
+none_first e ns (AVerb line v own more) = inl refl
 none_first e ns (ALoop l body more) = inl refl
 none_first e ns (AChoice c branches more) = inl refl
 none_first e ns (ABranch t own others) = refl
@@ -73,6 +75,7 @@ none_first e ns (ABranch t own others) = refl
 first_joined : (e : Entries) (ns : List Counted) (f : PassageFront) (body others : Passage) (m : ℕ) → FirstInFront e ns f body m → FirstIn e ns (joined f body others) m
 first_joined e ns (ARun ws) body others m (ms, meant) = inr (ms, m, 0, meant, none_first e ns others, omega arith)
 first_joined e ns APause body others m first = absurd first
+first_joined e ns (Worded line v ws) body others m (ms, meant, many) = inr (ms, 0, meant, none_first e ns others, omega (arith, many))
 first_joined e ns (Looped l ws) body others m first = inr (inl first)
 first_joined e ns (Chosen c ws) body others m first = inr (inl first)
 first_joined e ns (Branched t ws) body others m first = absurd first
@@ -81,6 +84,7 @@ first_behind : (e : Entries) (ns : List Counted) (f : PassageFront) (body others
     → FirstIn e ns (joined f body others) (count + m)
 first_behind e ns (ARun ws) body others own count m (ms, meant, e_is) first = inr (ms, count, m, meant, first, refl)
 first_behind e ns APause body others own count m (e_is, none) first = subst (λ (n : ℕ). FirstIn e ns others n) (omega (arith, none)) first
+first_behind e ns (Worded line v ws) body others own count m (ms, meant, e_is, many) first = inr (ms, m, meant, first, ap (λ (k : ℕ). k + m) many)
 first_behind e ns (Looped l ws) body others own count m (f, counted, loop) first = inr (inr (f, counted, own, count, m, loop, first, refl))
 first_behind e ns (Chosen c ws) body others own count m (a, inside, held, branches, count_is) first = inr (inr (a, own, inside, m, held, branches, first, ap (λ (k : ℕ). k + m) count_is))
 first_behind e ns (Branched t ws) body others own count m comes first = absurd comes
@@ -179,6 +183,7 @@ deeds_refused law n e ns words rest more f old now named left some only refused 
 bounded_parts : (f : PassageFront) (body others : Passage) → AreBounded (joined f body others) → BoundedFront f body × AreBounded others
 bounded_parts (ARun own) body others are = (tt, are)
 bounded_parts APause body others are = (tt, are)
+bounded_parts (Worded line v own) body others are = (tt, are)
 bounded_parts (Looped l own) body others are = ((are.0, are.1), are.2)
 bounded_parts (Chosen c own) body others are = are
 bounded_parts (Branched t own) body others are = are
@@ -193,6 +198,7 @@ bounds_parted f rest more (q, are, bounded) some only =
 pub front_read : (f : PassageFront) (words more : List Lexeme) → FrontStands f words more → IsFrontRead f
 front_read (ARun own) words more stands = stands.0
 front_read APause words more stands = tt
+front_read (Worded line v own) words more stands = tt
 front_read (Looped l own) words more stands = tt
 front_read (Chosen c own) words more (head, stops, end, h, branches, closes, are, none, e) = branches.begin
 front_read (Branched t own) words more stands = absurd stands

@@ -15,7 +15,7 @@ use Rattle.cob_move_deeds.specs.Tests.{Test}
 use Rattle.cob_move_loops.specs.Bounded.{AreBounded, IsBounded, has_subscript, is_subscripted, words_of_bound}
 use Rattle.cob_move_loops.specs.Few.{statements_by, statements_in, statements_of}
 use Rattle.cob_move_loops.specs.Laws.{OnePassage}
-use Rattle.cob_move_loops.specs.Passages.{ABranch, AChoice, ALoop, IsPassage, IsRun, Moves, NoMore, Passage, Pause, ToItem, ToNumber, WrittenBound, WrittenLoop}
+use Rattle.cob_move_loops.specs.Passages.{ABranch, AChoice, ALoop, IsPassage, IsRun, Moves, NoMore, Passage, Pause, ToItem, ToNumber, WrittenBound, WrittenLoop, AVerb}
 use Rattle.cob_move_loops.specs.Turns.{Counted, turns_between, turns_of, turns_up_to}
 use Rattle.cob_move_statements.specs.declared.fault.MoveFault.{MoveFault}
 use Rattle.cob_move.specs.declared.made.NotRead.{NotRead}
@@ -215,6 +215,7 @@ subscript_some : (name : List ℕ) (p : Passage) (ws : List Lexeme) → IsPassag
 subscript_some name NoMore ws is bounded e = absurd (let never : false ≡ true = e in cc)
 subscript_some name (Moves own more) ws (rest, run, first, cut, is) bounded e = omega (arith, run_some own run)
 subscript_some name (Pause more) ws (pause, stops, rest, word, are, cut, is) bounded e = subscript_some name more rest is bounded e
+subscript_some name (AVerb line v own more) ws is bounded e = omega arith
 subscript_some name (ALoop l body more) ws (head, own, stops, rest, end, h, b, inner, word, are, cut, is) bounded e =
     elim (either_so (is_subscripted name false (words_of_bound l.bound) || (nat_lt 0 (turns_of l) && has_subscript name body)) (has_subscript name more) e) [
       | inr behind ↦ omega (arith, subscript_some name more rest is bounded.2 behind)
@@ -257,6 +258,7 @@ pub nothing_comes : (e : Entries) (ns : List Counted) (p : Passage) (ws : List L
 nothing_comes e ns NoMore ws is bounded none = (refl, refl)
 nothing_comes e ns (Moves own more) ws (rest, run, first, cut, is) bounded none = absurd (omega (arith, run_some own run, none))
 nothing_comes e ns (Pause more) ws (pause, stops, rest, word, are, cut, is) bounded none = nothing_comes e ns more rest is bounded none
+nothing_comes e ns (AVerb line v own more) ws is bounded none = absurd (omega (arith, none))
 nothing_comes e ns (ALoop l body more) ws (head, own, stops, rest, end, h, b, inner, word, are, cut, is) bounded none = (
   λ i. Nothing,
   λ i. 0,
@@ -298,6 +300,7 @@ pub nothing_first : OneDeeds → (e : Entries) (ns : List Counted) (p : Passage)
 nothing_first law e ns NoMore ws is bounded none m first = first
 nothing_first law e ns (Moves own more) ws (rest, run, front, cut, is) bounded none m first = absurd (omega (arith, run_some own run, none))
 nothing_first law e ns (Pause more) ws (pause, stops, rest, word, are, cut, is) bounded none m first = nothing_first law e ns more rest is bounded none m first
+nothing_first law e ns (AVerb line v own more) ws is bounded none m first = absurd (omega (arith, none))
 nothing_first law e ns (AChoice c branches more) ws is bounded none m first = absurd (omega (arith, none))
 nothing_first law e ns (ABranch t own others) ws is bounded none m first = absurd is
 nothing_first law e ns (ALoop l body more) ws (head, own, stops, rest, end, h, b, inner, word, are, cut, is) bounded none m (inl first) = first

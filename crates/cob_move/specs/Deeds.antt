@@ -1,4 +1,5 @@
 -- What a passage comes to between two records: moves, and tests of loops to items and of choices between them.
+use Rattle.cob_move_verbs.specs.Verbs.{BreaksVerb, IsVerbMeant}
 use Rattle.std.specs.Prelude.{◌≡◌, ◌⊎◌, ℕ, zero, suc, ◌+◌, ◌-◌, ◌*◌, ◌<◌, ◌≤◌, false, List, [], ◌∷◌, ◌++◌, length, Option, Some, None}
 use Rattle.cob_limits.specs.Limits.{longest_record, most_written_out}
 use Rattle.cob_source.specs.Tokens.{Lexeme}
@@ -11,7 +12,7 @@ use Rattle.cob_move_choices.specs.Choices.{Against, BreaksBranchTest, BreaksSubj
 use Rattle.cob_move_deeds.specs.Deeds.{Choice, Deeds, Nothing}
 use Rattle.cob_move_deeds.specs.Tests.{Holds, IsBoundItem, Past, Test, Until, with_number}
 use Rattle.cob_move_deeds.specs.Turns.{turns_from}
-use Rattle.cob_move_loops.specs.Passages.{ABranch, AChoice, ALoop, Moves, NoMore, Otherwise, Passage, Pause, Tested, ToItem, ToNumber, WrittenBound, WrittenLoop, line_of}
+use Rattle.cob_move_loops.specs.Passages.{ABranch, AChoice, ALoop, Moves, NoMore, Otherwise, Passage, Pause, Tested, ToItem, ToNumber, WrittenBound, WrittenLoop, line_of, AVerb}
 use Rattle.cob_move_loops.specs.Words.{first_line}
 use Rattle.cob_move_loops.specs.Turns.{Counted, counter_at, in_turn, turns_between}
 use Rattle.cob_move_names.specs.Candidates.{Candidate}
@@ -71,7 +72,8 @@ pub data Standing : Type 0 where
   InStatements : Standing
   InBranches : Against → Standing
 
--- What is read comes to where the counters round it have these numbers, and to how many statements within loops and outside of them. A choice is one itself,
+-- What is read comes to where the counters round it have these numbers, and to how many statements within loops and outside of them. SET and INITIALIZE are as
+-- many as they mean moves. A choice is one itself,
 -- and it is tests of its branches, one within what is done where those before don't hold; what stands behind it is done in any case. A branch without
 -- statements has those of the next: it is taken where its test holds, or the next one's, or that of a branch before it that has the same.
 abbrev pub AreDeedsAt : List (Bearer ValuedEntry) → List Candidate → Forest Resolved → Forest Resolved → List Counted → Standing → Option Condition → Passage → Deeds Test → ℕ → Type 0
@@ -79,6 +81,9 @@ AreDeedsAt values all input output ns at waiting NoMore d many = (d ≡ Nothing)
 AreDeedsAt values all input output ns InStatements waiting (Moves own more) d many = (ms : List Move) × (next : Deeds Test) × (count rest : ℕ)
     × IsRunMeant input output (in_turn ns false 0 own) ms count × AreDeedsAt values all input output ns InStatements None more next rest × (d ≡ before_deeds ms next) × (many ≡ count + rest)
 AreDeedsAt values all input output ns InStatements waiting (Pause more) d many = AreDeedsAt values all input output ns InStatements None more d many
+AreDeedsAt values all input output ns InStatements waiting (AVerb line v own more) d many = (ms : List Move) × (next : Deeds Test) × (rest : ℕ)
+    × IsVerbMeant (record { input = input; output = output }) values v (in_turn ns false 0 own) ms × AreDeedsAt values all input output ns InStatements None more next rest
+    × (d ≡ before_deeds ms next) × (many ≡ length ms + rest)
 AreDeedsAt values all input output ns InStatements waiting (ALoop l body more) d many = (f : ℕ → Deeds Test) × (count : ℕ → ℕ) × (own next : Deeds Test) × (turned rest : ℕ)
     × IsLoopOf all ns l l.bound (λ i e c. AreDeedsAt values all input output (ns ++ counter_at l i ∷ []) InStatements None body e c) f count own turned
     × AreDeedsAt values all input output ns InStatements None more next rest × (d ≡ joined_deeds own next) × (many ≡ turned + rest)
@@ -88,6 +93,7 @@ AreDeedsAt values all input output ns InStatements waiting (AChoice c branches m
 AreDeedsAt values all input output ns InStatements waiting (ABranch t own others) d many = ⊥
 AreDeedsAt values all input output ns (InBranches a) waiting (Moves own more) d many = ⊥
 AreDeedsAt values all input output ns (InBranches a) waiting (Pause more) d many = ⊥
+AreDeedsAt values all input output ns (InBranches a) waiting (AVerb line v own more) d many = ⊥
 AreDeedsAt values all input output ns (InBranches a) waiting (ALoop l body more) d many = ⊥
 AreDeedsAt values all input output ns (InBranches a) waiting (AChoice c branches more) d many = ⊥
 AreDeedsAt values all input output ns (InBranches a) waiting (ABranch Otherwise own others) d many = AreDeedsAt values all input output ns InStatements None own d many
@@ -121,6 +127,10 @@ ComeFirstAt values all input output ns InStatements (Moves own more) many =
     (many ≡ 0)
     ⊎ ((ms : List Move) × (count rest : ℕ) × IsRunMeant input output (in_turn ns false 0 own) ms count × ComeFirstAt values all input output ns InStatements more rest × (many ≡ count + rest))
 ComeFirstAt values all input output ns InStatements (Pause more) many = ComeFirstAt values all input output ns InStatements more many
+ComeFirstAt values all input output ns InStatements (AVerb line v own more) many =
+    (many ≡ 0)
+    ⊎ ((ms : List Move) × (rest : ℕ) × IsVerbMeant (record { input = input; output = output }) values v (in_turn ns false 0 own) ms
+    × ComeFirstAt values all input output ns InStatements more rest × (many ≡ length ms + rest))
 ComeFirstAt values all input output ns InStatements (ALoop l body more) many =
     (many ≡ 0)
     ⊎ (ComeFirstInLoop all ns l l.bound (λ i c. (d : Deeds Test) × AreDeeds values all input output (ns ++ counter_at l i ∷ []) body d c) (λ i c. ComeFirstAt values all input output (ns ++ counter_at l i ∷ []) InStatements body c) many
@@ -135,6 +145,7 @@ ComeFirstAt values all input output ns InStatements (AChoice c branches more) ma
 ComeFirstAt values all input output ns InStatements (ABranch t own others) many = many ≡ 0
 ComeFirstAt values all input output ns (InBranches a) (Moves own more) many = many ≡ 0
 ComeFirstAt values all input output ns (InBranches a) (Pause more) many = many ≡ 0
+ComeFirstAt values all input output ns (InBranches a) (AVerb line v own more) many = many ≡ 0
 ComeFirstAt values all input output ns (InBranches a) (ALoop l body more) many = many ≡ 0
 ComeFirstAt values all input output ns (InBranches a) (AChoice c branches more) many = many ≡ 0
 ComeFirstAt values all input output ns (InBranches a) (ABranch Otherwise own others) many = ComeFirstAt values all input output ns InStatements own many
@@ -175,12 +186,15 @@ IsLoopRefused f all ns l (ToItem ws) refused meant =
     ⊎ (refused l.from
     ⊎ ((f.rule ≡ rule.Counter) × (f.line ≡ l.line) × ((i : ℕ) → l.from ≤ i → i ≤ l.from + longest_record → meant i)))
 
--- What is read is refused where the counters round it have these numbers: words of MOVE statements in it are, or a loop is, or what stands before the branches of a
+-- What is read is refused where the counters round it have these numbers: words of MOVE statements in it are, or those of SET or INITIALIZE, on its line, or a loop is, or what stands before the branches of a
 -- choice, on its line, or the test of a branch, on the line of the test.
 abbrev pub IsTurnRefusedAt : List (Bearer ValuedEntry) → MoveFault → List Candidate → Forest Resolved → Forest Resolved → List Counted → Standing → Passage → Type 0
 IsTurnRefusedAt values f all input output ns at NoMore = ⊥
 IsTurnRefusedAt values f all input output ns InStatements (Moves own more) = RunIsRefused f all input output (in_turn ns false 0 own) ⊎ IsTurnRefusedAt values f all input output ns InStatements more
 IsTurnRefusedAt values f all input output ns InStatements (Pause more) = IsTurnRefusedAt values f all input output ns InStatements more
+IsTurnRefusedAt values f all input output ns InStatements (AVerb line v own more) =
+    (BreaksVerb f.rule (record { input = input; output = output }) values v (in_turn ns false 0 own) × (f.line ≡ line))
+    ⊎ IsTurnRefusedAt values f all input output ns InStatements more
 IsTurnRefusedAt values f all input output ns InStatements (ALoop l body more) =
     IsLoopRefused f all ns l l.bound (λ i. IsTurnRefusedAt values f all input output (ns ++ counter_at l i ∷ []) InStatements body)
     (λ i. (d : Deeds Test) × (c : ℕ) × AreDeeds values all input output (ns ++ counter_at l i ∷ []) body d c)
@@ -192,6 +206,7 @@ IsTurnRefusedAt values f all input output ns InStatements (AChoice c branches mo
 IsTurnRefusedAt values f all input output ns InStatements (ABranch t own others) = IsTurnRefusedAt values f all input output ns InStatements others
 IsTurnRefusedAt values f all input output ns (InBranches a) (Moves own more) = ⊥
 IsTurnRefusedAt values f all input output ns (InBranches a) (Pause more) = ⊥
+IsTurnRefusedAt values f all input output ns (InBranches a) (AVerb line v own more) = ⊥
 IsTurnRefusedAt values f all input output ns (InBranches a) (ALoop l body more) = ⊥
 IsTurnRefusedAt values f all input output ns (InBranches a) (AChoice c branches more) = ⊥
 IsTurnRefusedAt values f all input output ns (InBranches a) (ABranch Otherwise own others) = IsTurnRefusedAt values f all input output ns InStatements own

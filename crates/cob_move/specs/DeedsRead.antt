@@ -1,4 +1,6 @@
 -- What the readers of paragraphs with loops to items and choices say of what they answer.
+use Rattle.cob_move_loops.specs.declared.parts.Verb.{Verb}
+use Rattle.cob_move_verbs.specs.Verbs.{BreaksVerb, IsVerbMeant}
 use Rattle.std.specs.Prelude.{◌≡◌, ◌⊎◌, ℕ, zero, suc, ◌+◌, ◌-◌, ◌*◌, ◌<◌, ◌≤◌, max, nat_eq, false, Bool, true, List, [], ◌∷◌, ◌++◌, drop, length, map, take, Option, Some, None}
 use Rattle.std.specs.Global.{Vec}
 use Rattle.std.specs.List.{AllByRecursion, slice_get}
@@ -28,7 +30,7 @@ use Rattle.cob_move_apply.specs.Prepared.{moves_of}
 use Rattle.cob_move_deeds.specs.Tests.{IsBound, IsBoundItem, Test}
 use Rattle.cob_move_loops.specs.Bounded.{AreBounded, BoundedFront}
 use Rattle.cob_move_loops.specs.Few.{opening_line}
-use Rattle.cob_move_loops.specs.Passages.{ABranch, AChoice, ALoop, APause, ARun, Branched, BranchesBegin, Chosen, IsPassage, IsPassageAt, IsRun, Looped, Moves, NoMore, Otherwise, Passage, PassageFront, Pause, Tested, WrittenChoice, WrittenLoop, kind_of, line_of}
+use Rattle.cob_move_loops.specs.Passages.{ABranch, AChoice, ALoop, APause, ARun, Branched, BranchesBegin, Chosen, IsPassage, IsPassageAt, IsRun, Looped, Moves, NoMore, Otherwise, Passage, PassageFront, Pause, Tested, WrittenChoice, WrittenLoop, kind_of, line_of, AVerb, Worded}
 use Rattle.cob_move_loops.specs.declared.parts.ChoiceKind.{ChoiceKind}
 use Rattle.cob_move_loops.specs.declared.parts.Place.TheVariants as place
 use Rattle.cob_move_loops.specs.Words.{first_line}
@@ -176,6 +178,7 @@ forgotten s m = record { list = take s.list m.list; ends = take s.ends m.ends; b
 abbrev pub IsFrontRead : PassageFront → Type 0
 IsFrontRead (ARun own) = IsRun own
 IsFrontRead APause = Unit {0}
+IsFrontRead (Worded line v own) = Unit {0}
 IsFrontRead (Looped l own) = Unit {0}
 IsFrontRead (Chosen c own) = BranchesBegin c own
 IsFrontRead (Branched t own) = ⊥
@@ -240,6 +243,10 @@ TellsFault (why.Broken g) f body = f ≡ g
 abbrev pub RunComesTo : Entries → List Counted → List Lexeme → Deeds Test → ℕ → Type 0
 RunComesTo e ns own d many = (ms : List Move) × IsRunMeant e.input.now e.output.now (in_turn ns false 0 own) ms many × (d ≡ Moving ms Nothing)
 
+-- the words of SET or INITIALIZE do, to as many statements as they mean moves
+abbrev pub VerbComesTo : Entries → List Counted → Verb → List Lexeme → Deeds Test → ℕ → Type 0
+VerbComesTo e ns v own d many = (ms : List Move) × IsVerbMeant (records_of e) (valued_in e) v (in_turn ns false 0 own) ms × (d ≡ Moving ms Nothing) × (many ≡ length ms)
+
 -- a passage, in a turn, comes to these deeds
 abbrev pub PassageComesTo : Entries → List Counted → Passage → Deeds Test → ℕ → Type 0
 PassageComesTo e ns p d many = AreDeeds (valued_in e) (nameable e) e.input.now e.output.now ns p d many
@@ -265,6 +272,7 @@ ChoiceComesTo e ns c p d many = (a : Against) × (inside : ℕ) × IsSubjectOf (
 abbrev pub FrontComesTo : Entries → List Counted → PassageFront → Passage → Deeds Test → ℕ → Type 0
 FrontComesTo e ns (ARun own) p d many = RunComesTo e ns own d many
 FrontComesTo e ns APause p d many = (d ≡ Nothing) × (many ≡ 0)
+FrontComesTo e ns (Worded line v own) p d many = VerbComesTo e ns v own d many
 FrontComesTo e ns (Looped l own) p d many = LoopComesTo e ns l p d many
 FrontComesTo e ns (Chosen c own) p d many = ChoiceComesTo e ns c p d many
 FrontComesTo e ns (Branched t own) p d many = ⊥
@@ -272,6 +280,10 @@ FrontComesTo e ns (Branched t own) p d many = ⊥
 -- words of MOVE statements are refused in a turn
 abbrev pub RunRefusedIn : MoveFault → Entries → List Counted → List Lexeme → Type 0
 RunRefusedIn f e ns own = RunIsRefused f (nameable e) e.input.now e.output.now (in_turn ns false 0 own)
+
+-- the words of SET or INITIALIZE on this line are
+abbrev pub VerbRefusedIn : MoveFault → Entries → List Counted → ℕ → Verb → List Lexeme → Type 0
+VerbRefusedIn f e ns line v own = BreaksVerb f.rule (records_of e) (valued_in e) v (in_turn ns false 0 own) × (f.line ≡ line)
 
 -- a passage is refused in a turn
 abbrev pub IsRefusedIn : MoveFault → Entries → List Counted → Passage → Type 0
@@ -297,6 +309,7 @@ ChoiceIsRefused f e ns c p =
 abbrev pub FrontIsRefused : MoveFault → Entries → List Counted → PassageFront → Passage → Type 0
 FrontIsRefused f e ns (ARun own) p = RunRefusedIn f e ns own
 FrontIsRefused f e ns APause p = ⊥
+FrontIsRefused f e ns (Worded line v own) p = VerbRefusedIn f e ns line v own
 FrontIsRefused f e ns (Looped l own) p = LoopIsRefused f e ns l p
 FrontIsRefused f e ns (Chosen c own) p = ChoiceIsRefused f e ns c p
 FrontIsRefused f e ns (Branched t own) p = ⊥
@@ -308,6 +321,10 @@ FirstIn e ns p many = ComeFirst (valued_in e) (nameable e) e.input.now e.output.
 -- in words of MOVE statements
 abbrev pub FirstInRun : Entries → List Counted → List Lexeme → ℕ → Type 0
 FirstInRun e ns own many = (ms : List Move) × IsRunMeant e.input.now e.output.now (in_turn ns false 0 own) ms many
+
+-- in the words of SET or INITIALIZE
+abbrev pub FirstInVerb : Entries → List Counted → Verb → List Lexeme → ℕ → Type 0
+FirstInVerb e ns v own many = (ms : List Move) × IsVerbMeant (records_of e) (valued_in e) v (in_turn ns false 0 own) ms × (many ≡ length ms)
 
 -- in a loop with this passage
 abbrev pub FirstInLoop : Entries → List Counted → WrittenLoop → Passage → ℕ → Type 0
@@ -338,6 +355,7 @@ FirstInChoice e ns c p many = (a : Against) × (inside : ℕ) × IsSubjectOf (re
 abbrev pub FirstInFront : Entries → List Counted → PassageFront → Passage → ℕ → Type 0
 FirstInFront e ns (ARun own) p many = FirstInRun e ns own many
 FirstInFront e ns APause p many = ⊥
+FirstInFront e ns (Worded line v own) p many = FirstInVerb e ns v own many
 FirstInFront e ns (Looped l own) p many = FirstInLoop e ns l p many
 FirstInFront e ns (Chosen c own) p many = FirstInChoice e ns c p many
 FirstInFront e ns (Branched t own) p many = ⊥
@@ -366,6 +384,26 @@ AddsMoved e ns words old new = AddsMade e (λ d many. RunComesTo e ns words d ma
 -- words of MOVE statements are not read in a turn, with what was made before
 abbrev pub MovedRefused : NotRead → Entries → List Counted → List Lexeme → MadeLists → Type 0
 MovedRefused n e ns words old = RefusedMade n (λ f. RunRefusedIn f e ns words) (λ many. FirstInRun e ns words many) old
+
+-- so it is of the words of SET or INITIALIZE
+abbrev pub AddsVerbed : Entries → List Counted → Verb → List Lexeme → (old new : MadeLists) → Type 0
+AddsVerbed e ns v words old new = AddsMade e (λ d many. VerbComesTo e ns v words d many) (λ many. FirstInVerb e ns v words many) old new
+
+abbrev pub VerbRefused : NotRead → Entries → List Counted → ℕ → Verb → List Lexeme → MadeLists → Type 0
+VerbRefused n e ns line v words old = RefusedMade n (λ f. VerbRefusedIn f e ns line v words) (λ many. FirstInVerb e ns v words many) old
+
+-- they mean no moves: memory was refused, or they break a rule on this line
+abbrev pub VerbNotRead : NotRead → Entries → List Counted → ℕ → Verb → List Lexeme → Type 0
+VerbNotRead why.Memory e ns line v words = Unit {0}
+VerbNotRead why.TooMany e ns line v words = ⊥
+VerbNotRead (why.Broken f) e ns line v words = ((f.rule ≡ rule.Memory) → ⊥) × VerbRefusedIn f e ns line v words
+
+-- they mean the moves of these statements, of which there is one at least: as many moves as statements, which may be carried out
+pub record AreVerbMoves (e : Entries) (ns : List Counted) (v : Verb) (words : List Lexeme) (own : List StatementMoves) : Type 0 where
+  pub meant : IsVerbMeant (records_of e) (valued_in e) v (in_turn ns false 0 words) (moves (records_of e) own)
+  pub operands : AreMoves (records_of e) (moves (records_of e) own)
+  pub some : 0 < length own
+  pub many : length own ≡ length (moves (records_of e) own)
 
 -- whatever passage words are, it is not read in a turn
 abbrev pub TurnRefused : NotRead → Entries → List Counted → List Lexeme → MadeLists → Type 0
@@ -405,6 +443,7 @@ abbrev pub deep : Passage → ℕ
 deep NoMore = 0
 deep (Moves own more) = deep more
 deep (Pause more) = deep more
+deep (AVerb line v own more) = deep more
 deep (ALoop l body more) = max (deep body + 1) (deep more)
 deep (AChoice c branches more) = deep more
 deep (ABranch t own more) = deep more
@@ -413,6 +452,7 @@ deep (ABranch t own more) = deep more
 abbrev pub deep_front : PassageFront → Passage → ℕ
 deep_front (ARun own) p = 0
 deep_front APause p = 0
+deep_front (Worded line v own) p = 0
 deep_front (Looped l own) p = deep p + 1
 deep_front (Chosen c own) p = 0
 deep_front (Branched t own) p = 0
@@ -421,6 +461,7 @@ deep_front (Branched t own) p = 0
 abbrev pub choice_in_front : PassageFront → Passage → Bool
 choice_in_front (ARun own) p = false
 choice_in_front APause p = false
+choice_in_front (Worded line v own) p = true
 choice_in_front (Looped l own) p = has_choice p
 choice_in_front (Chosen c own) p = true
 choice_in_front (Branched t own) p = true
@@ -429,6 +470,7 @@ choice_in_front (Branched t own) p = true
 abbrev pub words_in_front : PassageFront → ℕ
 words_in_front (ARun own) = 0
 words_in_front APause = 0
+words_in_front (Worded line v own) = 0
 words_in_front (Looped l own) = length own
 words_in_front (Chosen c own) = 0
 words_in_front (Branched t own) = 0
@@ -581,6 +623,7 @@ abbrev pub BeginsTested : Passage → Type 0
 BeginsTested NoMore = ⊥
 BeginsTested (Moves own more) = ⊥
 BeginsTested (Pause more) = ⊥
+BeginsTested (AVerb line v own more) = ⊥
 BeginsTested (ALoop l body more) = ⊥
 BeginsTested (AChoice c branches more) = ⊥
 BeginsTested (ABranch (Tested ws) own others) = Unit {0}

@@ -8,7 +8,7 @@ use Rattle.cob_copybook_tree.specs.Forests.{Forest}
 use Rattle.cob_copybook_tree.specs.Nodes.{Resolved}
 use Rattle.cob_move_loops.specs.Bounded.{AreBounded, LacksBound}
 use Rattle.cob_move_loops.specs.Few.{opening_line}
-use Rattle.cob_move_loops.specs.Passages.{ABranch, AChoice, ALoop, IsPassage, Moves, NoMore, Passage, Pause, ToItem, ToNumber, WrittenBound}
+use Rattle.cob_move_loops.specs.Passages.{ABranch, AChoice, ALoop, IsPassage, Moves, NoMore, Passage, Pause, ToItem, ToNumber, WrittenBound, AVerb}
 use Rattle.cob_move_loops.specs.Turns.{words_by_turn}
 use Rattle.cob_copybook_names.specs.Naming.{Bearer}
 use Rattle.cob_move_names.specs.Candidates.{Candidate, all_entries}
@@ -34,11 +34,12 @@ abbrev pub EndsByNumber : WrittenBound → Type 0
 EndsByNumber (ToNumber n) = Unit {0}
 EndsByNumber (ToItem ws) = ⊥
 
--- a choice stands in a passage
+-- a choice stands in a passage, or SET or INITIALIZE: it isn't read run by run
 abbrev pub has_choice : Passage → Bool
 has_choice NoMore = false
 has_choice (Moves own more) = has_choice more
 has_choice (Pause more) = has_choice more
+has_choice (AVerb line v own more) = true
 has_choice (ALoop l body more) = has_choice body || has_choice more
 has_choice (AChoice c branches more) = true
 has_choice (ABranch t own others) = true
@@ -58,15 +59,17 @@ abbrev pub IsPlainPassage : Passage → Type 0
 IsPlainPassage NoMore = Unit {0}
 IsPlainPassage (Moves own more) = IsPlainPassage more × HaveNoColon own
 IsPlainPassage (Pause more) = IsPlainPassage more
+IsPlainPassage (AVerb line v own more) = ⊥
 IsPlainPassage (ALoop l body more) = IsPlainPassage body × IsPlainPassage more × HasPlainBound l.bound
 IsPlainPassage (AChoice c branches more) = ⊥
 IsPlainPassage (ABranch t own others) = ⊥
 
--- each loop of a passage ends by a number, and there is no choice: so there is no test
+-- each loop of a passage ends by a number, and there is no choice: so there is no test; nor is SET or INITIALIZE there, whose moves aren't those of statements
 abbrev pub IsLiteral : Passage → Type 0
 IsLiteral NoMore = Unit {0}
 IsLiteral (Moves own more) = IsLiteral more
 IsLiteral (Pause more) = IsLiteral more
+IsLiteral (AVerb line v own more) = ⊥
 IsLiteral (ALoop l body more) = EndsByNumber l.bound × IsLiteral body × IsLiteral more
 IsLiteral (AChoice c branches more) = ⊥
 IsLiteral (ABranch t own others) = ⊥

@@ -32,7 +32,7 @@ use cob_move_tests::{Entries, either};
 use cob_source::Token;
 use std::alloc::{AllocError, Global};
 
-/// Whether what stands in front is a choice, or has one.
+/// Whether what stands in front is a choice, SET or INITIALIZE, or has one.
 #[cycle(choosing)]
 fn chooses(item: &PassageItem<'_>) -> bool
     ensures { (p : Passage) → Within (item_front item.now) p
@@ -41,13 +41,14 @@ fn chooses(item: &PassageItem<'_>) -> bool
     match item {
         PassageItem::Run(_) => false,
         PassageItem::Pause => false,
+        PassageItem::Verb { .. } => true,
         PassageItem::Loop { body, .. } => has_choice(body),
         PassageItem::Choice { .. } => true,
         PassageItem::Branch { .. } => true,
     }
 }
 
-/// Whether a choice stands in a passage.
+/// Whether a choice stands in a passage, or SET or INITIALIZE.
 #[cycle(choosing)]
 pub(crate) fn has_choice(words: &[Token]) -> bool
     ensures { (p : Passage) → IsPassage p (lexemes words.now) → result ≡ has_choice p }

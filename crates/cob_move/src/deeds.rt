@@ -28,6 +28,7 @@ use crate::looking::{is_sure, look_at_turn, plain_depth};
 use crate::loops::{add_words, fault_of};
 use crate::made::{BranchFlows, Made, NotRead, keep_turn, taken_flows};
 use crate::meaning_laws::{meant_are_moves, meant_break_no_rule};
+use crate::verbs::add_verb;
 use cob_copybook_tree::{Item, Kind, is_number_item};
 use cob_limits::{MAX_RECORD, MAX_WRITTEN_OUT};
 use cob_move_apply::PlacedEntry;
@@ -683,6 +684,9 @@ fn add_item<'a>(
     match item {
         PassageItem::Run(words) => add_moves(alloc, entries, pairs, words, turn, made),
         PassageItem::Pause => Ok(()),
+        PassageItem::Verb { line, verb, words } => {
+            add_verb(alloc, entries, *line, *verb, words, turn, made)
+        }
         PassageItem::Loop { head, body } => match head.bound {
             LoopBound::Number(_) => add_turns(alloc, entries, pairs, head, body, turn, made),
             LoopBound::Item(words) => add_tested(

@@ -8,6 +8,7 @@ use cob_move_choices::{
 };
 use cob_move_names::{named_break_no_rule, one_named};
 use cob_move_statements::{one_list_of_ended, one_reference};
+use cob_move_verbs::{one_verb_meant, verbs_break_no_rule};
 
 /// A law: moves that meet are together, and what is done is the same.
 pub fn joined_is_both()
@@ -24,6 +25,7 @@ pub fn one_deeds()
     one_named();
     one_subject();
     one_branch_test();
+    one_verb_meant();
 }
 
 /// A law: a passage that comes to something in a turn breaks no rule there.
@@ -38,4 +40,5 @@ pub fn deeds_break_no_rule()
     one_subject();
     subjects_break_no_rule();
     branch_tests_break_no_rule();
+    verbs_break_no_rule();
 }

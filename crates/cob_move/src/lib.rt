@@ -66,6 +66,7 @@ mod meaning_laws;
 mod paragraph;
 mod pieces;
 mod single;
+mod verbs;
 
 pub use cob_codec::Reading;
 pub use cob_copybook::Book;

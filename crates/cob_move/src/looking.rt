@@ -132,6 +132,7 @@ fn look_at_item<'a>(
     match item {
         PassageItem::Run(words) => look_at_run(alloc, entries, pairs, words, turn),
         PassageItem::Pause => Ok(()),
+        PassageItem::Verb { .. } => Ok(()),
         PassageItem::Loop { head, body } => look_at_loop(alloc, entries, pairs, head, body, turn),
         // A turn is sure to come to few statements only where it has no choice, so nothing is looked at here.
         PassageItem::Choice { .. } => Ok(()),
@@ -210,6 +211,7 @@ fn depth_of_item(item: &PassageItem<'_>) -> u64
     match item {
         PassageItem::Run(_) => 0,
         PassageItem::Pause => 0,
+        PassageItem::Verb { .. } => 0,
         PassageItem::Loop { body, .. } => depth(body) + 1,
         PassageItem::Choice { .. } => 0,
         PassageItem::Branch { .. } => 0,

@@ -55,6 +55,9 @@ chooses-returns-in-Run t c = subst (λ (f : PassageFront). (p : Passage) → Wit
 pub chooses-returns-in-Pause : goal.chooses-returns-in-Pause
 chooses-returns-in-Pause t c = subst (λ (f : PassageFront). (p : Passage) → Within f p → false ≡ choice_in_front f p) (sym (ap item_front c.in-Pause.is)) (λ p within. refl)
 
+pub chooses-returns-in-Verb : goal.chooses-returns-in-Verb
+chooses-returns-in-Verb t c = subst (λ (f : PassageFront). (p : Passage) → Within f p → true ≡ choice_in_front f p) (sym (ap item_front c.in-Verb.is)) (λ p within. refl)
+
 pub chooses-returns-in-Loop : goal.chooses-returns-in-Loop
 chooses-returns-in-Loop t c =
     subst (λ (f : PassageFront). (p : Passage) → Within f p → c.has_choice.result ≡ choice_in_front f p) (sym (ap item_front c.in-Loop.is)) (λ p within. c.has_choice.ensures p within)

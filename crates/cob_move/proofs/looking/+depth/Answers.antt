@@ -47,6 +47,10 @@ pub depth_of_item-returns-in-Pause-clause-deep : goal.depth_of_item-returns-in-P
 depth_of_item-returns-in-Pause-clause-deep t c =
     subst (λ (f : PassageFront). (p : Passage) → Within f p → deep_front f p ≤ 0) (sym (ap item_front c.in-Pause.is)) (λ p within. omega arith)
 
+pub depth_of_item-returns-in-Verb-clause-deep : goal.depth_of_item-returns-in-Verb-clause-deep
+depth_of_item-returns-in-Verb-clause-deep t c =
+    subst (λ (f : PassageFront). (p : Passage) → Within f p → deep_front f p ≤ 0) (sym (ap item_front c.in-Verb.is)) (λ p within. omega arith)
+
 pub depth_of_item-returns-in-Loop-clause-deep : goal.depth_of_item-returns-in-Loop-clause-deep
 depth_of_item-returns-in-Loop-clause-deep t c =
     subst (λ (f : PassageFront). (p : Passage) → Within f p → deep_front f p ≤ c.depth.result + 1) (sym (ap item_front c.in-Loop.is)) (λ p within. omega (arith, c.depth.ensures.deep p within))
