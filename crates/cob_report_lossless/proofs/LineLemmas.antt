@@ -12,7 +12,7 @@ use Rattle.cob_source.specs.Words.{AreParagraphWordsOf}
 use Rattle.cob_source.specs.declared.token.TokenKind.TheVariants as kind
 use Rattle.cob_move_loops.specs.Laws.{BreaksNone, NoTurn, OnePassage}
 use Rattle.cob_move_loops.specs.Reading.{all_runs, counters, run_words}
-use Rattle.cob_move_loops.specs.Passages.{ABranch, AChoice, ALoop, AnEvaluate, AnIf, Breaks, IsPassage, Moves, NoMore, Passage, Pause, TestFirst}
+use Rattle.cob_move_loops.specs.Passages.{ABranch, AChoice, ALoop, AnEvaluate, AnIf, Breaks, IsPassage, Moves, NoMore, Passage, Pause, TestFirst, AVerb, verb_word}
 use Rattle.cob_move_loops.specs.Turns.{in_turn, words_by_turn}
 use Rattle.cob_move_loops.specs.declared.turn.Counter.{Counter}
 use Rattle.cob_move_loops.specs.Words.{AreTestWords, IsPassageWord, IsPeriod, IsTestWord}
@@ -130,6 +130,11 @@ named_passage one w stop body (Pause more) p named is (pause, stops, rest, word,
     let same : pause ≡ w = cc in
     let also : IsPassage (Pause p) (w ∷ stop ∷ body) = (w, stop ∷ [], body, subst (IsPassageWord mark.Continue) same word, (is, tt), refl, behind) in
     ap (words_by_turn []) (one (Pause more) (Pause p) (w ∷ stop ∷ body) (pause, stops, rest, word, are, e, others) also)
+named_passage one w stop body (AVerb line v own more) p named is (rest, (begins, stops, word, at, items, are, ends, e), others) behind =
+    let same : begins ≡ w = cc in
+    let also : IsPassage (AVerb line v [] p) (w ∷ stop ∷ body) =
+    (body, (w, stop ∷ [], subst (IsPassageWord (verb_word v)) same word, at ∙ ap (λ (u : Lexeme). u.line) same, tt, (is, tt), λ item. item.no_period is, refl), behind) in
+    ap (words_by_turn []) (one (AVerb line v own more) (AVerb line v [] p) (w ∷ stop ∷ body) (rest, (begins, stops, word, at, items, are, ends, e), others) also)
 named_passage one w stop body (ALoop l inner more) p named is (head, own, stops, rest, end, (varying, stepping, until, (perform, second, counter, word, line, is_word, counts, v), step, tests, h), b, within, ends, are, e, others) behind =
     let whole : w ∷ stop ∷ body ≡ ((perform ∷ second ∷ counter ∷ []) ++ (stepping ++ until)) ++ (own ++ end ∷ (stops ++ rest)) =
     e ∙ ap (λ (t : List Lexeme). t ++ (own ++ end ∷ (stops ++ rest))) (h ∙ ap (λ (t : List Lexeme). t ++ (stepping ++ until)) v) in

@@ -10,7 +10,7 @@ use Rattle.cob_move_loops.specs.declared.parts.ChoiceKind.{ChoiceKind}
 use Rattle.cob_move_loops.specs.declared.parts.Place.{Place}
 use Rattle.cob_move_loops.specs.declared.parts.Place.TheVariants as standing
 use Rattle.cob_move_loops.specs.Few.{statements_of}
-use Rattle.cob_move_loops.specs.Passages.{ABranch, AChoice, ALoop, APause, ARun, Branched, Chosen, FrontAt, IsPassage, IsPassageAt, Looped, Moves, NoMore, Passage, PassageFront, Pause, WrittenLoop, WrittenTest}
+use Rattle.cob_move_loops.specs.Passages.{ABranch, AChoice, ALoop, APause, ARun, Branched, Chosen, FrontAt, IsPassage, IsPassageAt, Looped, Moves, NoMore, Passage, PassageFront, Pause, WrittenLoop, WrittenTest, AVerb, Worded}
 use Rattle.cob_move_loops.specs.Reading.{Within}
 use Rattle.cob_move_loops.specs.Turns.{Counted, counter_at, in_turn, turns_of}
 use Rattle.cob_move_loops.proofs.PassageLemmas.{IsOnlyFront, Parted, empty_passage, joined, nothing_left, parted}
@@ -27,6 +27,8 @@ tell_joined ns at (ARun own) body more fs rest left before between after (lines,
     (lines, are, subst (λ (gs : List Flow). TellPassage ns at more gs (with_statements lines before) left after) same (subst (λ (t : ToldLines). TellPassage ns at more rest t left after) told next))
 tell_joined ns at APause body more fs rest left before between after (same, told) next =
     subst (λ (gs : List Flow). TellPassage ns at more gs before left after) same (subst (λ (t : ToldLines). TellPassage ns at more rest t left after) told next)
+tell_joined ns at (Worded line v own) body more fs rest left before between after (lines, are, same, told) next =
+    (lines, are, subst (λ (gs : List Flow). TellPassage ns at more gs (with_statements lines before) left after) same (subst (λ (t : ToldLines). TellPassage ns at more rest t left after) told next))
 tell_joined ns at (Looped l own) body more fs rest left before between after told next = (rest, between, told, next)
 tell_joined ns at (Chosen c own) body more fs rest left before between after told next = (rest, between, told, next)
 tell_joined ns at (Branched t own) body more fs rest left before between after told next = (rest, between, told, next)

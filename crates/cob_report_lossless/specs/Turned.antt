@@ -1,5 +1,9 @@
 -- The lines of what a paragraph comes to, where it has loops to items or choices: they are told passage by passage, beside the flows that it comes to.
-use Rattle.std.specs.Prelude.{◌≡◌, ◌⊎◌, ℕ, zero, suc, ◌+◌, ◌<◌, false, encode_utf8_all, List, [], ◌∷◌, ◌++◌, length, map, replicate, slice_set, string_bytes, Option, Some, None}
+use Rattle.cob_move_statements.specs.Written.{WrittenReference}
+use Rattle.cob_move_statements.specs.Verbs.{IsVerbSpelled}
+use Rattle.cob_move_loops.specs.declared.parts.Verb.TheVariants as verb
+use Rattle.cob_move_loops.specs.declared.parts.Verb.{Verb}
+use Rattle.std.specs.Prelude.{◌≡◌, ◌⊎◌, ℕ, zero, suc, ◌+◌, ◌*◌, ◌<◌, false, encode_utf8_all, List, [], ◌∷◌, ◌++◌, length, map, replicate, slice_set, string_bytes, Option, Some, None}
 use Rattle.cob_source.specs.Tokens.{Lexeme}
 use Rattle.cob_source.specs.Words.{AreParagraphWordsOf}
 use Rattle.cob_move_deeds.specs.declared.flow.Flow.{Flow}
@@ -9,7 +13,7 @@ use Rattle.cob_move_loops.specs.declared.parts.ChoiceKind.TheVariants as kind
 use Rattle.cob_move_loops.specs.declared.parts.Place.{Place}
 use Rattle.cob_move_loops.specs.declared.parts.Place.TheVariants as standing
 use Rattle.cob_move_loops.specs.Few.{statements_of}
-use Rattle.cob_move_loops.specs.Passages.{ABranch, AChoice, ALoop, APause, ARun, Branched, Chosen, Looped, Moves, NoMore, Otherwise, Passage, PassageFront, Pause, Tested, ToItem, ToNumber, WrittenBound, WrittenLoop, WrittenTest, kind_of}
+use Rattle.cob_move_loops.specs.Passages.{ABranch, AChoice, ALoop, APause, ARun, Branched, Chosen, Looped, Moves, NoMore, Otherwise, Passage, PassageFront, Pause, Tested, ToItem, ToNumber, WrittenBound, WrittenLoop, WrittenTest, kind_of, AVerb, Worded}
 use Rattle.cob_move_loops.specs.Turns.{Counted, counter_at, in_turn, turns_of}
 use Rattle.cob_move_loops.specs.Words.{first_line}
 use Rattle.cob_report_lossless.specs.Lines.{AreStatementLines, HasBody}
@@ -173,6 +177,17 @@ TellBranch one k t own fs before left after =
     ((own ≡ NoMore) × (left ≡ fs) × (after ≡ before))
     ⊎ ((own ≡ NoMore → ⊥) × (rest : List Flow) × (between : ToldLines) × TellTest k t fs before rest between × one rest between left after)
 
+-- how many moves SET or INITIALIZE is of each of its references
+abbrev pub moves_each : Verb → ℕ
+moves_each verb.Set = 1
+moves_each verb.Initialize = 2
+
+-- The words behind SET or INITIALIZE on a line are references, and these are the lines of its moves: that line for each.
+pub record AreVerbLines (line : ℕ) (v : Verb) (ws : List Lexeme) (lines : List ℕ) : Type 0 where
+  pub references : List WrittenReference
+  pub spelled : IsVerbSpelled v references ws
+  pub lines_are : lines ≡ replicate (length references * moves_each v) line
+
 -- the kind of choice whose branches stand in a place; statements are no choice's branches
 abbrev pub kind_in : Place → ChoiceKind
 kind_in standing.Statements = kind.If
@@ -184,6 +199,8 @@ TellPassage ns at NoMore fs before left after = (left ≡ fs) × (after ≡ befo
 TellPassage ns at (Moves own more) fs before left after = (lines : List ℕ)
     × AreStatementLines (in_turn ns false 0 own) lines × TellPassage ns at more fs (with_statements lines before) left after
 TellPassage ns at (Pause more) fs before left after = TellPassage ns at more fs before left after
+TellPassage ns at (AVerb line v own more) fs before left after = (lines : List ℕ)
+    × AreVerbLines line v (in_turn ns false 0 own) lines × TellPassage ns at more fs (with_statements lines before) left after
 TellPassage ns at (ALoop l body more) fs before left after = (rest : List Flow) × (between : ToldLines)
     × TellLoop (λ i. TellPassage (ns ++ counter_at l i ∷ []) standing.Statements body) l body l.bound fs before rest between × TellPassage ns at more rest between left after
 TellPassage ns at (AChoice c branches more) fs before left after = (rest : List Flow) × (between : ToldLines)
@@ -196,6 +213,8 @@ abbrev pub TellFront : List Counted → Place → PassageFront → Passage → L
 TellFront ns at (ARun own) body fs before left after = (lines : List ℕ)
     × AreStatementLines (in_turn ns false 0 own) lines × (left ≡ fs) × (after ≡ with_statements lines before)
 TellFront ns at APause body fs before left after = (left ≡ fs) × (after ≡ before)
+TellFront ns at (Worded line v own) body fs before left after = (lines : List ℕ)
+    × AreVerbLines line v (in_turn ns false 0 own) lines × (left ≡ fs) × (after ≡ with_statements lines before)
 TellFront ns at (Looped l own) body fs before left after =
     TellLoop (λ i. TellPassage (ns ++ counter_at l i ∷ []) standing.Statements body) l body l.bound fs before left after
 TellFront ns at (Chosen c own) body fs before left after = TellPassage ns (standing.Branches (kind_of c)) body fs before left after

@@ -9,16 +9,16 @@ ghost use Rattle.cob_move_loops.specs.Reading.{counters, item_front, written_loo
 ghost use Rattle.cob_move_loops.specs.Turns.{counter_at, in_turn};
 ghost use Rattle.cob_move_loops.specs.declared.parts.Place.TheVariants as standing;
 ghost use Rattle.cob_report_lossless.specs.Lines.{AreLinesOf, AreStatementLines};
-ghost use Rattle.cob_report_lossless.specs.Turned.{first_found_condition, first_test, found_condition, found_test, kind_in, plain_condition, told_condition, told_lines, told_loop, told_of, unknown_condition, unknown_loop, with_told_condition, with_loop, with_statements, AreDeedLinesOf, TellBranch, TellCondition, TellFront, TellPassage, TellTest, TellTested, TellTurned};
+ghost use Rattle.cob_report_lossless.specs.Turned.{AreVerbLines, moves_each, first_found_condition, first_test, found_condition, found_test, kind_in, plain_condition, told_condition, told_lines, told_loop, told_of, unknown_condition, unknown_loop, with_told_condition, with_loop, with_statements, AreDeedLinesOf, TellBranch, TellCondition, TellFront, TellPassage, TellTest, TellTested, TellTurned};
 ghost use Rattle.cob_source.specs.Tokens.{lexemes};
 
 use crate::lines::{body_of, lines_of, statement_lines};
 use cob_move_deeds::{Flow, ReadyDeeds};
 use cob_move_loops::{
-    BranchTest, ChoiceKind, Counter, Loop, LoopBound, PassageItem, Place, first_line, in_turn,
-    item_in, kind_of, turns_to_write, with_counter,
+    BranchTest, ChoiceKind, Counter, Loop, LoopBound, PassageItem, Place, Verb, first_line,
+    in_turn, item_in, kind_of, turns_to_write, with_counter,
 };
-use cob_move_statements::MoveFault;
+use cob_move_statements::{MoveFault, MoveRule, verb_references};
 use cob_source::{Token, paragraph_tokens};
 use std::alloc::{AllocError, Global};
 
@@ -265,6 +265,66 @@ fn add_statements(
     Ok(())
 }
 
+/// How many moves SET or INITIALIZE is of each of its references.
+fn moves_each(verb: Verb) -> usize
+    ensures { result ≡ moves_each verb }
+{
+    match verb {
+        Verb::Set => 1,
+        Verb::Initialize => 2,
+    }
+}
+
+/// The same line, so many times.
+fn same_lines(alloc: Global, line: u32, count: usize) -> Result<Vec<u32>, AllocError>
+    ensures { IfOk result (λ v. v.items ≡ replicate count line) }
+{
+    let mut lines = Vec::with_capacity(alloc, count)?;
+    for i in 0..count {
+        lines.push(line)?;
+    }
+    Ok(lines)
+}
+
+/// The lines of the moves that words behind SET or INITIALIZE on a line mean.
+fn verb_lines(alloc: Global, line: u32, verb: Verb, words: &[Token]) -> Result<Vec<u32>, MoveFault>
+    ensures { IfOk result (λ v. AreVerbLines line verb (lexemes words.now) v.items) }
+{
+    let Some(references) = verb_references(alloc, verb, words)? else {
+        return Err(MoveFault {
+            rule: MoveRule::Grammar,
+            line,
+        });
+    };
+    let Some(count) = references.len().checked_mul(moves_each(verb)) else {
+        return Err(MoveFault {
+            rule: MoveRule::Memory,
+            line: 0,
+        });
+    };
+    let lines = same_lines(alloc, line, count)?;
+    Ok(lines)
+}
+
+/// Adds the lines of the moves that words behind SET or INITIALIZE on a line mean in a turn.
+fn add_verb(
+    alloc: Global,
+    line: u32,
+    verb: Verb,
+    words: &[Token],
+    turn: &[Counter<'_>],
+    lines: &mut DeedLines,
+) -> Result<(), MoveFault>
+    ensures { OnOk result ((own : List ℕ)
+        × AreVerbLines line verb (in_turn (counters turn.now) false 0 (lexemes words.now)) own
+        × (told_lines lines.new ≡ with_statements own (told_lines lines.old))) }
+{
+    let words = in_turn(alloc, words, turn)?;
+    let mut own = verb_lines(alloc, line, verb, words.as_slice())?;
+    lines.statements.append(&mut own)?;
+    Ok(())
+}
+
 /// The number of a counter in the next turn. No number of a loop comes near 32 bits.
 fn next_number(number: u32, by: u32) -> Result<u32, AllocError>
     ensures { IfOk result (λ next. next ≡ number + by) }
@@ -412,6 +472,10 @@ fn read_item<'a>(
             Ok(flows)
         }
         PassageItem::Pause => Ok(flows),
+        PassageItem::Verb { line, verb, words } => {
+            add_verb(alloc, *line, *verb, words, turn, lines)?;
+            Ok(flows)
+        }
         PassageItem::Loop { head, body } => match head.bound {
             LoopBound::Number(_) => read_turns(alloc, head, body, turn, flows, lines),
             LoopBound::Item(_) => read_tested(alloc, head, body, turn, flows, lines),

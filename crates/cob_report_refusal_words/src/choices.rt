@@ -25,7 +25,11 @@ fn begun_block(word: &Token) -> Option<Block> {
         Some(PassageWord::Perform) => Some(Block::Perform),
         Some(PassageWord::If) => Some(Block::If),
         Some(PassageWord::Evaluate) => Some(Block::Evaluate),
-        Some(PassageWord::EndPerform) | Some(PassageWord::Continue) | None => None,
+        Some(PassageWord::EndPerform)
+        | Some(PassageWord::Continue)
+        | Some(PassageWord::Set)
+        | Some(PassageWord::Initialize)
+        | None => None,
     }
 }
 
