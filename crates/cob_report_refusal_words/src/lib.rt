@@ -43,6 +43,7 @@ mod pictures;
 mod pointing;
 mod references;
 mod search;
+mod settings;
 mod source;
 mod statements;
 mod subscripts;

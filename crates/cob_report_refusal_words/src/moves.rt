@@ -14,6 +14,7 @@ use crate::operands::{
 };
 use crate::phrases::{Part, Phrase};
 use crate::pointing::in_statement;
+use crate::settings::told_setting;
 use crate::source::{SourceText, told_source};
 use crate::statements::{
     broken_on, is_constant, statement_in_front, tested_on, with_head, words_at,
@@ -145,6 +146,9 @@ fn words_told<'a>(words: &'a [Token], refusal: &MoveRefusal) -> &'a [Token] {
 /// What is told of the statement in front, which breaks this rule.
 fn told_statement<'a>(both: BothWords<'a>, words: &'a [Token], rule: MoveRule) -> Told<'a> {
     let statement = statement_in_front(words);
+    if let Some(told) = told_setting(statement, rule) {
+        return told;
+    }
     match rule {
         MoveRule::Grammar => told_statement_words(words),
         MoveRule::Unknown => told_unknown(both, statement, behind_many(words, statement.len())),

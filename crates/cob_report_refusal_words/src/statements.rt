@@ -4,6 +4,7 @@ use crate::choices::{is_branch_word, is_word};
 use crate::clauses::{Read, behind_characters, behind_term, is_characters, lacks};
 use crate::comparisons::is_test;
 use crate::entry::{behind_many, front_of, last_words, words_before};
+use crate::settings::begins_setting;
 use crate::terms::{behind, is_name_word, is_term};
 use crate::words::has_digits_alone;
 use cob_copybook_clauses::WordClass;
@@ -190,6 +191,9 @@ pub(crate) fn broken_on(words: &[Token], line: u32) -> &[Token] {
     let from = words_on(words, line);
     for at in 0..line_len(from, line) {
         let rest = behind_many(from, at);
+        if begins_setting(rest) {
+            return rest;
+        }
         if behind(rest, WordClass::Move).is_some() && behind_statement(rest).is_err() {
             return rest;
         }
@@ -215,7 +219,7 @@ fn begins_test(words: &[Token]) -> bool {
     }
 }
 
-/// The words from the first test on a line on, or from the first MOVE there where none is, or from the first word. What a statement breaks by itself is told at its
+/// The words from the first test, SET or INITIALIZE on a line on, or from the first MOVE there where none is, or from the first word. What a statement breaks by itself is told at its
 /// place: so where none is told a test breaks it.
 pub(crate) fn tested_on(words: &[Token], line: u32) -> &[Token] {
     let from = words_on(words, line);
@@ -223,7 +227,7 @@ pub(crate) fn tested_on(words: &[Token], line: u32) -> &[Token] {
     let mut is_moved = false;
     for at in 0..line_len(from, line) {
         let rest = behind_many(from, at);
-        if begins_test(rest) {
+        if begins_test(rest) || begins_setting(rest) {
             return rest;
         }
         if !is_moved && behind(rest, WordClass::Move).is_some() {

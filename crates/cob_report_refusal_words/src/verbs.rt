@@ -5,6 +5,7 @@ use crate::clauses::Lack;
 use crate::entry::{last_words, words_before};
 use crate::phrases::{Part, Phrase};
 use crate::pointing::goes_on;
+use crate::settings::told_setting_words;
 use crate::statements::behind_statement;
 use crate::terms::{is_name_word, is_term};
 use crate::told::{Caret, Told, advised_at, said, said_at};
@@ -13,7 +14,7 @@ use cob_source::Token;
 
 /// How a verb is told that begins no statement of a paragraph.
 const OTHER_VERB: &str =
-    "MOVE is expected, and {} stands there: a paragraph is MOVE statements, loops, IF and EVALUATE";
+    "MOVE is expected, and {} stands there: a paragraph is MOVE, SET, INITIALIZE, loops, IF and EVALUATE";
 
 /// What to do with a loop.
 const LOOP: &str =
@@ -30,6 +31,9 @@ fn verb_hint(word: &Token) -> &'static str {
 /// What is told of a word where no statement begins, and which words it begins.
 fn told_verb<'a>(word: &'a Token, words: &'a [Token]) -> Told<'a> {
     if let Some(told) = told_block(words) {
+        return told;
+    }
+    if let Some(told) = told_setting_words(words) {
         return told;
     }
     advised_at(
