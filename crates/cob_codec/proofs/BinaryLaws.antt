@@ -92,7 +92,7 @@ fits_half count a few lt = by_tests (nat_le count 4) (nat_le count 9) (tested co
     by_tests false true four nine = let most : 10 ^ count ≤ 10 ^ 9 = pow-le-pow_right (omega arith) (nine refl) in omega arith
     by_tests false false four nine = let most : 10 ^ count ≤ 10 ^ 18 = pow-le-pow_right (omega arith) few in omega arith
 
-big_back : (n x : ℕ) → x < 256 ^ n → big_number (length (big_bytes n x)) (big_bytes n x) ≡ x
+pub big_back : (n x : ℕ) → x < 256 ^ n → big_number (length (big_bytes n x)) (big_bytes n x) ≡ x
 big_back n x lt =
     ap (λ k. big_number k (big_bytes n x)) (length-bytes_high_first n x)
     ∙ ap (λ bs. big_number n bs) (sym (append-nil (big_bytes n x)))

@@ -3,9 +3,11 @@ pub mod ZonedLaws
 pub mod SeparateLaws
 pub mod PackedLaws
 pub mod BinaryLaws
+pub mod NativeLaws
 pub mod ZonedLemmas
 pub mod PackedLemmas
 pub mod BinaryLemmas
+pub mod NativeLemmas
 pub mod SliceLemmas
 pub mod HalfLemmas
 pub mod ZonedFlawLemmas

@@ -4,6 +4,7 @@ pub mod Zoned
 pub mod Separate
 pub mod Packed
 pub mod Binary
+pub mod Native
 pub mod Flaws
 pub mod Naturals
 pub mod AnyZones

@@ -2,6 +2,7 @@ ghost use Rattle.std.specs.Prelude.{◌≡◌, ◌+◌, ◌-◌, ◌^◌, ◌<�
 ghost use Rattle.cob_decimal.specs.Decimal.{IsDigits, number_of};
 ghost use Rattle.byteorder.specs.Endian.{big_number, big_bytes};
 ghost use Rattle.cob_codec.specs.Binary.{IsBinary, IsWholeBinary, binary_length, binary_number, binary_form, signed_number, whole_digits};
+ghost use Rattle.cob_codec.specs.Native.{FitsNative};
 ghost use Rattle.cob_limits.specs.Limits.{most_binary_digits};
 
 use crate::shape::Shape;
@@ -156,7 +157,7 @@ fn unsigned_in(count: u8, bytes: &[u8]) -> u64
 }
 
 /// Writes an unsigned number into an item's bytes.
-fn put_unsigned(count: u8, number: u64, bytes: &mut [u8])
+pub(crate) fn put_unsigned(count: u8, number: u64, bytes: &mut [u8])
     requires long { length bytes.old ≡ binary_length count }
     requires fits { number < 256 ^ binary_length count }
     ensures { bytes.new ≡ big_bytes (binary_length count) number }
@@ -169,11 +170,12 @@ fn put_unsigned(count: u8, number: u64, bytes: &mut [u8])
 }
 
 /// The number of an item's bytes: whether it is below zero, and its magnitude.
-fn signed_in(shape: &Shape, bytes: &[u8]) -> (bool, u64)
+pub(crate) fn signed_in(shape: &Shape, bytes: &[u8]) -> (bool, u64)
     requires { length bytes.now ≡ binary_length shape.now.digits }
     ensures value { signed_number result.0 result.1 ≡ binary_number shape.now.signed bytes.now }
     ensures nonzero { IsTrue result.0 → 0 < result.1 }
     ensures fits { result.1 < 256 ^ binary_length shape.now.digits }
+    ensures held { FitsNative shape.now.digits shape.now.signed result.0 result.1 }
 {
     let number = unsigned_in(shape.digits, bytes);
     let greatest = greatest(shape.digits);
@@ -198,7 +200,7 @@ fn magnitude_of(digits: &[u8]) -> u64
 }
 
 /// That many digits of a number, the lowest ones last.
-fn digits_of(number: u64, count: u8) -> Digits
+pub(crate) fn digits_of(number: u64, count: u8) -> Digits
     requires few { count ≤ 20 }
     requires fits { number < 10 ^ count }
     ensures count { length result ≡ count }

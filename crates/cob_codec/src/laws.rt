@@ -2,6 +2,7 @@ ghost use Rattle.std.specs.Prelude.{◌<◌, ◌≤◌, ℕ, Bool, IsTrue};
 ghost use Rattle.cob_codec.specs.AnyZones.{IsPackedByAnyZones, IsSeparateByAnyZones, IsZonedByAnyZones};
 ghost use Rattle.cob_codec.specs.Binary.{IsBinary, IsWholeBinary, binary_form};
 ghost use Rattle.cob_codec.specs.Laws.{OneNumber, OneValue, ReadsBack, ReadsToo, RepresentsHeld};
+ghost use Rattle.cob_codec.specs.Native.{IsNative, NativeReadsBack};
 ghost use Rattle.cob_codec.specs.Packed.{IsPacked, packed_form};
 ghost use Rattle.cob_codec.specs.Separate.{IsSignedSeparately, separate_form};
 ghost use Rattle.cob_codec.specs.Zoned.{IsZoned, zoned_form};
@@ -14,6 +15,7 @@ pub fn bytes_represent_one_number()
     ensures packed { (count : ℕ) (signed : Bool) → OneNumber (IsPacked count signed) }
     ensures binary { (count : ℕ) (signed : Bool) → OneNumber (IsBinary count signed) }
     ensures whole { (count : ℕ) (signed : Bool) → OneNumber (IsWholeBinary count signed) }
+    ensures native { (count : ℕ) (signed : Bool) → OneNumber (IsNative count signed) }
     ensures any_zoned { (count : ℕ) (signed leading : Bool)
         → OneNumber (IsZonedByAnyZones count signed leading) }
     ensures any_separate { (count : ℕ) (leading : Bool)
@@ -57,4 +59,9 @@ pub fn any_zones_hold_numbers()
         → RepresentsHeld count signed (IsSeparateByAnyZones count leading) }
     ensures packed { (count : ℕ) (signed : Bool)
         → RepresentsHeld count signed (IsPackedByAnyZones count signed) }
+{}
+
+/// A number that the bytes of a native item hold comes back from what is stored for it.
+pub fn native_numbers_read_back()
+    ensures { NativeReadsBack }
 {}

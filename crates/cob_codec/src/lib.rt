@@ -9,6 +9,11 @@
 //! one stored form (`bytes`). The words for these are in specs/: `IsZoned`, `IsSignedSeparately`, `IsPacked` and `IsBinary` relate the bytes
 //! to a sign and digits, whose magnitude is the sum of each digit times its power of ten; `zoned_form`, `separate_form`,
 //! `packed_form` and `binary_form` are the bytes that are written. `Binary::read_whole` is the number of all bytes (`IsWholeBinary`).
+//!
+//! [`Native`] is a fifth kind, of COMP-5, and no [`Storage`], since its numbers aren't those of the picture's digits: its bytes always represent the number of
+//! all of them (`Native::read`, `IsNative`), and any number may be stored, of which the lowest bytes stay (`Native::store`, `HoldsNative`). A number that the
+//! bytes hold comes back from what is stored for it ([`native_numbers_read_back`]), and what bytes represent is one.
+//!
 //! `read_any_zones` of [`Zoned`], [`Separate`] and [`Packed`] reads digits as the machine takes them, whatever the zones of the bytes are
 //! (`IsZonedByAnyZones`, `IsSeparateByAnyZones`, `IsPackedByAnyZones` of specs/AnyZones.antt). A [`Reading`] says which of the readings is meant.
 //! `bytes_represent_one_number`, `stored_numbers_read_back`, `whole_reading_agrees`, `strict_is_any` and `any_zones_hold_numbers` are laws over these
@@ -27,9 +32,9 @@
 //! # Where it is proved
 //!
 //! The clauses of `length`, `read`, `store` and `laws` of the trait `Storage`, for the kinds `Zoned`, `Separate`, `Packed`, `Binary`;
-//! `Binary::read_whole`; `read_any_zones` of `Zoned`, `Separate`, `Packed`; the methods of `Reading`; `Zoned::natural`, `Packed::natural`, `Binary::natural`; `Shape::of`; of `zoned_flaw`, `packed_flaw` and `separate_flaw`: the first part of bytes
+//! `Binary::read_whole`; `read` and `store` of `Native`; `read_any_zones` of `Zoned`, `Separate`, `Packed`; the methods of `Reading`; `Zoned::natural`, `Packed::natural`, `Binary::natural`; `Shape::of`; of `zoned_flaw`, `packed_flaw` and `separate_flaw`: the first part of bytes
 //! that is not as its place asks (`IsFirstFlaw`), none exactly where the bytes represent a number; the laws `bytes_represent_one_number`,
-//! `stored_numbers_read_back`, `whole_reading_agrees`, `strict_is_any`, `any_zones_hold_numbers`.
+//! `stored_numbers_read_back`, `whole_reading_agrees`, `strict_is_any`, `any_zones_hold_numbers`, `native_numbers_read_back`.
 #![tactic(auto)]
 
 mod any_zones;
@@ -37,6 +42,7 @@ mod binary;
 mod flaw;
 mod halves;
 mod laws;
+mod native;
 mod naturals;
 mod packed;
 mod packed_flaws;
@@ -52,9 +58,10 @@ mod zoned_flaws;
 pub use crate::binary::Binary;
 pub use crate::flaw::{ExpectedPart, Flaw, NumberFlaw};
 pub use crate::laws::{
-    any_zones_hold_numbers, bytes_represent_one_number, stored_numbers_read_back, strict_is_any,
-    whole_reading_agrees,
+    any_zones_hold_numbers, bytes_represent_one_number, native_numbers_read_back,
+    stored_numbers_read_back, strict_is_any, whole_reading_agrees,
 };
+pub use crate::native::Native;
 pub use crate::packed::Packed;
 pub use crate::packed_flaws::packed_flaw;
 pub use crate::reading::Reading;

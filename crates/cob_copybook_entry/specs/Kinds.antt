@@ -2,7 +2,7 @@
 use Rattle.std.specs.Prelude.{ℕ, ◌==◌, Bool, true, false, List, [], ◌∷◌, length, filter, map, codes, if◌then◌else◌, bytes_eq, Option, Some, None}
 use denote.Ref.{Bor}
 use Rattle.cob_copybook_entry.specs.declared.kinds.Usage.{Usage}
-use Rattle.cob_copybook_entry.specs.declared.kinds.Usage.TheVariants.{Display, Binary, Packed}
+use Rattle.cob_copybook_entry.specs.declared.kinds.Usage.TheVariants.{Display, Binary, Packed, Native}
 use Rattle.cob_copybook_entry.specs.declared.kinds.UsageWord.{UsageWord}
 use Rattle.cob_copybook_entry.specs.declared.kinds.UsageWord.TheVariants.{Names, LeftOut}
 
@@ -11,12 +11,14 @@ abbrev pub is_display : Usage → Bool
 is_display Display = true
 is_display Binary = false
 is_display Packed = false
+is_display Native = false
 
 -- the shortest name of a usage
 abbrev pub usage_name : Usage → List ℕ
 usage_name Display = codes "DISPLAY"
 usage_name Binary = codes "COMP"
 usage_name Packed = codes "COMP-3"
+usage_name Native = codes "COMP-5"
 
 -- a word of the USAGE clause, and what it means
 pub record KeptWord : Type 0 where
@@ -35,8 +37,9 @@ usage_words =
     ∷ kept_word (codes "COMP-4") (Names Binary) ∷ kept_word (codes "COMPUTATIONAL-4") (Names Binary) ∷ kept_word (codes "BINARY") (Names Binary)
     ∷ kept_word (codes "COMP-3") (Names Packed) ∷ kept_word (codes "COMPUTATIONAL-3") (Names Packed)
     ∷ kept_word (codes "PACKED-DECIMAL") (Names Packed)
-    ∷ kept_word (codes "COMP-1") LeftOut ∷ kept_word (codes "COMP-2") LeftOut ∷ kept_word (codes "COMP-5") LeftOut
-    ∷ kept_word (codes "COMPUTATIONAL-1") LeftOut ∷ kept_word (codes "COMPUTATIONAL-2") LeftOut ∷ kept_word (codes "COMPUTATIONAL-5") LeftOut
+    ∷ kept_word (codes "COMP-5") (Names Native) ∷ kept_word (codes "COMPUTATIONAL-5") (Names Native)
+    ∷ kept_word (codes "COMP-1") LeftOut ∷ kept_word (codes "COMP-2") LeftOut
+    ∷ kept_word (codes "COMPUTATIONAL-1") LeftOut ∷ kept_word (codes "COMPUTATIONAL-2") LeftOut
     ∷ kept_word (codes "INDEX") LeftOut ∷ kept_word (codes "POINTER") LeftOut
     ∷ kept_word (codes "PROCEDURE-POINTER") LeftOut ∷ kept_word (codes "FUNCTION-POINTER") LeftOut
     ∷ kept_word (codes "NATIONAL") LeftOut ∷ kept_word (codes "DISPLAY-1") LeftOut

@@ -1,7 +1,9 @@
 -- Which number the bytes of an item represent, whatever its usage.
-use Rattle.std.specs.Prelude.{◌≡◌, ℕ, ◌<◌, Bool, true, false, List, MatchBool}
-use Rattle.cob_picture.specs.Counts.{digits, signed, size}
-use Rattle.cob_codec.specs.Sign.{IsHeld}
+use Rattle.std.specs.Prelude.{◌≡◌, ℕ, ◌<◌, nat_lt, ℤ, Bool, true, false, ◌&&◌, List, length, MatchBool, IsTrue}
+use Rattle.cob_decimal.specs.Decimal.{IsDigits, number_of, aligned}
+use Rattle.cob_picture.specs.Counts.{digits, scale, signed, size}
+use Rattle.cob_picture.specs.Counts as counts
+use Rattle.cob_codec.specs.Native.{HoldsNative}
 use Rattle.cob_codec.specs.declared.flaw.NumberFlaw.{NumberFlaw}
 use Rattle.cob_codec.specs.declared.reading.Reading.{Reading}
 use Rattle.cob_codec.specs.declared.reading.Reading.TheVariants.{AnyZones, Pictured, Whole, WholeAnyZones}
@@ -9,7 +11,7 @@ use Rattle.cob_copybook_tree.specs.declared.kinds.StorageKind.{StorageKind}
 use Rattle.cob_copybook_tree.specs.declared.node.Item.{Item}
 use Rattle.cob_copybook_tree.specs.Lengths.{item_size}
 use Rattle.cob_copybook_tree.specs.Resolving.{is_numeric, is_number}
-use Rattle.cob_copybook_tree.specs.Storage.{IsFlawAs, RepresentsAs, SentAs, TakesPicture, is_leading, storage_kind_by, written_as}
+use Rattle.cob_copybook_tree.specs.Storage.{FitsAs, IsFlawAs, RepresentsAs, SentAs, TakesPicture, digits_as, is_leading, is_native, storage_kind_by, written_as}
 
 -- the kind of storage of an item
 abbrev pub storage_kind : Item → StorageKind
@@ -42,6 +44,37 @@ pub record IsNumberItem (i : Item) : Type 0 where
 abbrev pub IsStorable : Item → Type 0
 IsStorable i = MatchBool (is_number i) (IsNumberItem i) (item_size i ≡ size i.picture.positions)
 
+-- how many digits the numbers of an item have
+abbrev pub number_digits : Item → ℕ
+number_digits i = digits_as (storage_kind i) (digits i.picture.positions)
+
+-- A number that an item can hold: as many digits as its numbers have, and negative only where it has a sign. Zero is not negative.
+pub record IsHeldIn (i : Item) (negative : Bool) (ds : List ℕ) : Type 0 where
+  pub count_is : length ds ≡ number_digits i
+  pub valid : IsDigits ds
+  pub minus : IsTrue negative → IsTrue (signed i.picture.positions)
+  pub nonzero : IsTrue negative → 0 < number_of ds
+  pub fits : FitsAs (storage_kind i) i.picture negative (number_of ds)
+
+-- The item's bytes are what a number of these digits and this scale leaves in it: its digits aligned by the point, and a minus only where the item has a
+-- sign and something is left, in the item's kind of storage.
+pub record HoldsAligned (i : Item) (negative : Bool) (ds : List ℕ) (from : ℤ) (bytes : List ℕ) : Type 0 where
+  pub digits : List ℕ
+  pub valid : IsDigits digits
+  pub count : length digits ≡ counts.digits i.picture.positions
+  pub value : number_of digits ≡ aligned (number_of ds) from (scale i.picture.positions) (counts.digits i.picture.positions)
+  pub minus : Bool
+  pub sign : minus ≡ (negative && (signed i.picture.positions && nat_lt 0 (number_of digits)))
+  pub stored : bytes ≡ stored_form i minus digits
+
+-- The bytes of a number's item are what a number that is moved to it leaves there: its digits aligned by the point, and in a native item what its bytes
+-- hold of it.
+abbrev pub HoldsNumber : Item → Bool → List ℕ → ℤ → List ℕ → Type 0
+HoldsNumber i negative ds from bytes =
+    MatchBool (is_native (storage_kind i))
+    (HoldsNative (digits i.picture.positions) (scale i.picture.positions) (negative && signed i.picture.positions) (number_of ds) from bytes)
+    (HoldsAligned i negative ds from bytes)
+
 -- the bytes of an item represent at most one number
 abbrev pub OneItemNumber : Type 0
 OneItemNumber = (i : Item) (bytes : List ℕ) (a b : Bool) (ds es : List ℕ) → Represents i bytes a ds → Represents i bytes b es → (a ≡ b) × (ds ≡ es)
@@ -53,13 +86,13 @@ OneSentNumber = (reading : Reading) (i : Item) (bytes : List ℕ) (a b : Bool) (
 
 -- what was stored for a number that the item can hold represents this number
 abbrev pub ItemReadsBack : Type 0
-ItemReadsBack = (i : Item) (negative : Bool) (ds : List ℕ) → IsNumberItem i → 0 < digits i.picture.positions → IsHeld (digits i.picture.positions) (signed i.picture.positions) negative ds
+ItemReadsBack = (i : Item) (negative : Bool) (ds : List ℕ) → IsNumberItem i → 0 < digits i.picture.positions → IsHeldIn i negative ds
     → Represents i (stored_form i negative ds) negative ds
 
 -- what the bytes of an item represent is a number that the item can hold
 abbrev pub HoldsNumbers : Type 0
 HoldsNumbers = (i : Item) (bytes : List ℕ) (negative : Bool) (ds : List ℕ) → IsNumberItem i → Represents i bytes negative ds
-    → IsHeld (digits i.picture.positions) (signed i.picture.positions) negative ds
+    → IsHeldIn i negative ds
 
 -- a number that the bytes of an item represent by a strict reading of zones is what they represent by any zones too
 abbrev pub StrictIsAny : Type 0

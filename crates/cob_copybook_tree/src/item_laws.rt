@@ -15,7 +15,7 @@ pub fn stored_numbers_read_back()
     ensures { ItemReadsBack }
 {}
 
-/// What the bytes of an item represent has the picture's digits, and a minus only where the picture has a sign.
+/// What the bytes of an item represent is a number that it can hold: of as many digits as its numbers have, with a minus only where it has a sign.
 pub fn items_hold_numbers()
     ensures { HoldsNumbers }
 {}

@@ -2,22 +2,22 @@
 
 ghost use Rattle.std.specs.Prelude.{◌≡◌, ◌<◌, ◌≤◌, ℕ, Bool, false, List, length, option_map, IfNone, IfSome, IsTrue};
 ghost use Rattle.std.specs.Bool.{OnTrue};
-ghost use Rattle.cob_codec.specs.Binary.{binary_length};
+ghost use Rattle.std.specs.Option.{IsNone};
+ghost use Rattle.cob_codec.specs.Binary.{binary_length, whole_digits};
 ghost use Rattle.cob_codec.specs.Naturals.{IsNaturalOf};
-ghost use Rattle.cob_codec.specs.Sign.{IsHeld};
 ghost use Rattle.cob_codec.specs.declared.flaw.NumberFlaw.TheVariants.{Part};
 ghost use Rattle.cob_codec.specs.declared.reading.Reading.{Reading};
 ghost use Rattle.cob_codec.specs.declared.reading.Reading.TheVariants.{AnyZones, Whole, WholeAnyZones};
 ghost use Rattle.cob_decimal.specs.Answers.{AnswersNumber};
 ghost use Rattle.cob_picture.specs.Counts.{digits, scale, signed};
-ghost use Rattle.cob_copybook_tree.specs.Items.{storage_kind, IsFlawOf, IsNumberItem, IsSentBy, Represents, stored_form};
+ghost use Rattle.cob_copybook_tree.specs.Items.{storage_kind, HoldsAligned, HoldsNumber, IsFlawOf, IsNumberItem, IsSentBy, Represents, number_digits, stored_form};
 ghost use Rattle.cob_copybook_tree.specs.Lengths.{item_size};
-ghost use Rattle.cob_copybook_tree.specs.Storage.{is_leading, is_read_whole, is_separate, is_zoned, number_words, storage_kind_by, storage_word, stored_size, AllowsPicture, IsNarrow, TakesPicture};
+ghost use Rattle.cob_copybook_tree.specs.Storage.{digits_as, is_leading, is_native, is_read_whole, is_separate, is_zoned, number_words, storage_kind_by, storage_word, stored_size, AllowsPicture, IsNarrow, TakesPicture};
 ghost use Rattle.cob_copybook_tree.specs.declared.kinds.StorageKind.TheVariants as kind;
 
 use crate::Item;
 use cob_codec::{
-    Binary, Flaw, NumberFlaw, Packed, Separate, Storage, Zoned, packed_flaw, separate_flaw,
+    Binary, Flaw, Native, NumberFlaw, Packed, Separate, Storage, Zoned, packed_flaw, separate_flaw,
     zoned_flaw,
 };
 use cob_copybook_entry::{Sign, Usage};
@@ -36,6 +36,8 @@ pub enum StorageKind {
     Packed,
     /// The number itself, in two's complement where it has a sign.
     Binary,
+    /// The same, and only the bytes limit the number, whatever the digits of the picture.
+    Native,
 }
 
 /// Whether the sign has a byte of its own.
@@ -69,6 +71,17 @@ fn binary_length(digits: u8) -> u16
     }
 }
 
+/// How many digits the greatest number in the bytes of a binary number of so many digits has.
+fn whole_digits(digits: u8) -> u8
+    ensures { result ≡ whole_digits digits }
+{
+    match digits {
+        0..=4 => 5,
+        5..=9 => 10,
+        _ => 20,
+    }
+}
+
 /// Whether the number has few enough digits for a binary item, those that a P stands for counted too.
 fn is_narrow(picture: &Picture) -> bool
     ensures yes { IsTrue result → IsNarrow picture.now }
@@ -91,6 +104,7 @@ impl StorageKind {
             Usage::Display => StorageKind::Zoned,
             Usage::Packed => StorageKind::Packed,
             Usage::Binary => StorageKind::Binary,
+            Usage::Native => StorageKind::Native,
         }
     }
 
@@ -101,6 +115,24 @@ impl StorageKind {
         matches!(self, StorageKind::Zoned)
     }
 
+    /// Whether only the bytes of a number of it limit it, whatever the digits of the picture.
+    pub fn is_native(self) -> bool
+        ensures { result ≡ is_native self }
+    {
+        matches!(self, StorageKind::Native)
+    }
+
+    /// How many digits a number of it has under a picture of so many.
+    fn digits(self, digits: u8) -> u8
+        ensures value { result ≡ digits_as self digits }
+    {
+        match self {
+            StorageKind::Zoned | StorageKind::Separate | StorageKind::Packed => digits,
+            StorageKind::Binary => digits,
+            StorageKind::Native => whole_digits(digits),
+        }
+    }
+
     /// Whether it takes a picture.
     pub fn takes(self, picture: &Picture) -> bool
         ensures yes { OnTrue result (TakesPicture self picture.now) }
@@ -109,7 +141,7 @@ impl StorageKind {
         match self {
             StorageKind::Zoned | StorageKind::Packed => true,
             StorageKind::Separate => picture.signed(),
-            StorageKind::Binary => picture.digits() <= MAX_BINARY_DIGITS,
+            StorageKind::Binary | StorageKind::Native => picture.digits() <= MAX_BINARY_DIGITS,
         }
     }
 
@@ -120,7 +152,7 @@ impl StorageKind {
     {
         match self {
             StorageKind::Zoned | StorageKind::Separate | StorageKind::Packed => true,
-            StorageKind::Binary => is_narrow(picture),
+            StorageKind::Binary | StorageKind::Native => is_narrow(picture),
         }
     }
 
@@ -139,7 +171,7 @@ impl StorageKind {
             StorageKind::Zoned => picture.size(),
             StorageKind::Separate => picture.size() + 1,
             StorageKind::Packed => u16::from(picture.digits()) / 2 + 1,
-            StorageKind::Binary => binary_length(picture.digits()),
+            StorageKind::Binary | StorageKind::Native => binary_length(picture.digits()),
         }
     }
 
@@ -153,6 +185,7 @@ impl StorageKind {
             StorageKind::Separate => "separate",
             StorageKind::Packed => "packed",
             StorageKind::Binary => "binary",
+            StorageKind::Native => "native",
         }
     }
 
@@ -165,12 +198,13 @@ impl StorageKind {
             StorageKind::Separate => "number with a separate sign",
             StorageKind::Packed => "packed number",
             StorageKind::Binary => "binary number of this picture",
+            StorageKind::Native => "native binary number",
         }
     }
 }
 
-/// The number that the bytes of an item represent: exactly its picture's digits, at its picture's scale. None exactly where they represent
-/// no number.
+/// The number that the bytes of an item represent: exactly its picture's digits, or 5, 10 or 20 of a native one, at its picture's scale. None
+/// exactly where they represent no number.
 pub fn read_number(item: &Item, bytes: &[u8]) -> Option<Number>
     requires number { IsNumberItem item.now }
     requires long { length bytes.now ≡ item_size item.now }
@@ -186,6 +220,7 @@ pub fn read_number(item: &Item, bytes: &[u8]) -> Option<Number>
         StorageKind::Separate => Separate::read(&shape, bytes),
         StorageKind::Packed => Packed::read(&shape, bytes),
         StorageKind::Binary => Binary::read(&shape, bytes),
+        StorageKind::Native => Some(Native::read(&shape, bytes)),
     }
 }
 
@@ -204,6 +239,7 @@ pub(crate) fn read_whole(item: &Item, bytes: &[u8]) -> Option<Number>
         StorageKind::Separate => read_number(item, bytes),
         StorageKind::Packed => read_number(item, bytes),
         StorageKind::Binary => Some(Binary::read_whole(&item.shape(), bytes)),
+        StorageKind::Native => read_number(item, bytes),
     }
 }
 
@@ -223,6 +259,7 @@ pub(crate) fn read_any_zones(item: &Item, bytes: &[u8]) -> Option<Number>
         StorageKind::Separate => Separate::read_any_zones(&shape, bytes),
         StorageKind::Packed => Packed::read_any_zones(&shape, bytes),
         StorageKind::Binary => Binary::read(&shape, bytes),
+        StorageKind::Native => read_number(item, bytes),
     }
 }
 
@@ -242,23 +279,22 @@ pub(crate) fn read_whole_any_zones(item: &Item, bytes: &[u8]) -> Option<Number>
         StorageKind::Separate => read_any_zones(item, bytes),
         StorageKind::Packed => read_any_zones(item, bytes),
         StorageKind::Binary => Some(Binary::read_whole(&item.shape(), bytes)),
+        StorageKind::Native => read_number(item, bytes),
     }
 }
 
-/// Writes the stored form of a number into all bytes of an item.
+/// Writes the stored form of a number into all bytes of an item that is not native.
 ///
 /// The number has exactly the digits and the scale of the item's picture, as `Number::align` makes it, and is negative only where the picture
 /// has a sign.
-pub fn store_number(item: &Item, number: &Number, bytes: &mut [u8])
+fn store_aligned(item: &Item, number: &Number, bytes: &mut [u8])
     requires number { IsNumberItem item.now }
+    requires pictured { is_native (storage_kind item.now) ≡ false }
     requires long { length bytes.old ≡ item_size item.now }
     requires digits { length number.now.digits ≡ digits item.now.picture.positions }
     requires scale { number.now.scale ≡ scale item.now.picture.positions }
     requires sign { IsTrue number.now.negative → IsTrue (signed item.now.picture.positions) }
     ensures bytes { bytes.new ≡ stored_form item.now number.now.negative number.now.digits }
-    ensures held { IsHeld (digits item.now.picture.positions)
-        (signed item.now.picture.positions) number.now.negative number.now.digits }
-    ensures reads { Represents item.now bytes.new number.now.negative number.now.digits }
 {
     let shape = item.shape();
     match item.storage_kind() {
@@ -266,6 +302,35 @@ pub fn store_number(item: &Item, number: &Number, bytes: &mut [u8])
         StorageKind::Separate => Separate::store(&shape, number, bytes),
         StorageKind::Packed => Packed::store(&shape, number, bytes),
         StorageKind::Binary => Binary::store(&shape, number, bytes),
+        StorageKind::Native => Native::store(&shape, number, bytes),
+    }
+}
+
+/// Writes what a number leaves in an item that is not native: its digits aligned by the point.
+fn hold_aligned(item: &Item, number: &Number, bytes: &mut [u8])
+    requires number { IsNumberItem item.now }
+    requires pictured { is_native (storage_kind item.now) ≡ false }
+    requires long { length bytes.old ≡ item_size item.now }
+    ensures { HoldsAligned item.now
+        number.now.negative number.now.digits number.now.scale bytes.new }
+{
+    let picture = &item.picture;
+    let aligned = number.align(picture.digits(), picture.scale(), picture.signed());
+    store_aligned(item, &aligned, bytes);
+}
+
+/// Writes what a number that is moved to an item leaves there into all its bytes: its digits aligned by the point, and in a native item what its
+/// bytes hold of it.
+pub fn hold_number(item: &Item, number: &Number, bytes: &mut [u8])
+    requires number { IsNumberItem item.now }
+    requires long { length bytes.old ≡ item_size item.now }
+    ensures { HoldsNumber item.now
+        number.now.negative number.now.digits number.now.scale bytes.new }
+{
+    if item.storage_kind().is_native() {
+        Native::store(&item.shape(), number, bytes);
+    } else {
+        hold_aligned(item, number, bytes);
     }
 }
 
@@ -315,6 +380,20 @@ fn part(flaw: Option<Flaw>) -> Option<NumberFlaw>
     }
 }
 
+/// What is wrong with the bytes of a native item: nothing.
+fn native_flaw(item: &Item, bytes: &[u8]) -> Option<NumberFlaw>
+    requires number { IsNumberItem item.now }
+    requires kind { storage_kind item.now ≡ kind.Native }
+    requires long { length bytes.now ≡ item_size item.now }
+    ensures nothing { IsNone result }
+    ensures none { (negative : Bool) × (digits : List ℕ)
+        × Represents item.now bytes.now negative digits }
+{
+    // All bytes represent a number.
+    let _ = Native::read(&item.shape(), bytes);
+    None
+}
+
 /// What is wrong with the bytes of an item: nothing, but of binary ones, only where they represent a number as its picture says.
 fn strict_flaw(item: &Item, bytes: &[u8]) -> Option<NumberFlaw>
     requires number { IsNumberItem item.now }
@@ -330,6 +409,7 @@ fn strict_flaw(item: &Item, bytes: &[u8]) -> Option<NumberFlaw>
         StorageKind::Separate => part(separate_flaw(&shape, bytes)),
         StorageKind::Packed => part(packed_flaw(&shape, bytes)),
         StorageKind::Binary => Some(NumberFlaw::Range),
+        StorageKind::Native => native_flaw(item, bytes),
     }
 }
 
@@ -340,6 +420,13 @@ impl Item {
         ensures { result ≡ storage_kind self.now }
     {
         StorageKind::of(self.usage, self.sign)
+    }
+
+    /// How many digits its numbers have: those of its picture, and of a native item 5, 10 or 20, by its 2, 4 or 8 bytes.
+    pub fn digits(&self) -> u8
+        ensures { result ≡ number_digits self.now }
+    {
+        self.storage_kind().digits(self.picture.digits())
     }
 
     /// Its bytes, the one of a separate sign with them.
@@ -361,6 +448,7 @@ impl Item {
             StorageKind::Separate => None,
             StorageKind::Packed => packed_natural(self, bytes),
             StorageKind::Binary => binary_natural(self, bytes),
+            StorageKind::Native => None,
         }
     }
 

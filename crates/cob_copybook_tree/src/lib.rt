@@ -22,23 +22,23 @@
 //! Contracts see branches and nodes as a `Forest` (specs/Forests.antt), so that no clause speaks of where they lie in memory. A fault is
 //! only that memory was refused: which levels, usages, signs and tables are allowed, the crates above say.
 //!
-//! An [`Item`] is stored in one of the kinds of `cob_codec`: zoned or with a separate sign under DISPLAY, packed, or binary
-//! ([`Item::storage_kind`]). All that depends on the kind stands in src/kinds.rt, with its definitions in specs/Storage.antt: which pictures it
+//! An [`Item`] is stored in one of the kinds of `cob_codec`: zoned or with a separate sign under DISPLAY, packed, binary, or native
+//! (COMP-5; [`Item::storage_kind`]). All that depends on the kind stands in src/kinds.rt, with its definitions in specs/Storage.antt: which pictures it
 //! takes ([`StorageKind::takes`]) and the rules of copybooks allow ([`StorageKind::allows`]), its bytes, what reads and writes it, what is wrong
 //! with bytes that represent no number ([`Item::flaw`]), the number that a few steps tell ([`Item::quick_natural`]), whether reading it whole
 //! differs ([`StorageKind::is_read_whole`]), and its words. [`Item::shape`] is how a number lies in its bytes.
 //!
 //! - [`read_number`] gives the number that the bytes of an item represent, at the scale of its picture (`found`, `scale`), and None only where they represent
-//!   none (`only`); [`read_sent`] does so of an item that is sent, by a [`Reading`] (`IsSentBy`); [`store_number`] writes the one stored form of a number
-//!   (`bytes`), of one that the item can hold (`held`), and these bytes represent it (`reads`). The words for these are in specs/Items.antt: `Represents`,
-//!   `stored_form`, and `IsNumberItem`, which says of which items this is said ([`is_number_item`] tells); `IsStorable` says of any item that its bytes can
+//!   none (`only`); [`read_sent`] does so of an item that is sent, by a [`Reading`] (`IsSentBy`); [`hold_number`] writes what a number that is moved
+//!   to an item leaves there: its digits aligned by the point in the item's kind of storage, and in a native item what its bytes hold of it. The words for
+//!   these are in specs/Items.antt: `Represents`, `HoldsNumber`, `stored_form`, and `IsNumberItem`, which says of which items this is said ([`is_number_item`] tells); `IsStorable` says of any item that its bytes can
 //!   hold what it describes.
 //! - The laws: bytes represent at most one number ([`one_number`], [`one_sent_number`]), what was stored reads back ([`stored_numbers_read_back`]), what
-//!   bytes represent is a number of the picture's digits and sign ([`items_hold_numbers`]), and is read by any zones too ([`strict_is_any`]).
+//!   bytes represent is a number that the item can hold ([`items_hold_numbers`], `IsHeldIn`), and is read by any zones too ([`strict_is_any`]).
 //!
 //! # Where it is proved
 //!
-//! The clauses of `build_tree`, `resolve`, `Item::size`, `element_length`, `whole_length`, `read_number`, `read_sent`, `store_number`, and of the methods
+//! The clauses of `build_tree`, `resolve`, `Item::size`, `element_length`, `whole_length`, `read_number`, `read_sent`, `hold_number`, and of the methods
 //! of `StorageKind` and `Item` on kinds of storage; the laws `one_tree`, `as_many_entries`, `one_number`, `one_sent_number`, `stored_numbers_read_back`,
 //! `items_hold_numbers`, `strict_is_any`.
 #![tactic(auto)]
@@ -61,7 +61,7 @@ pub use cob_copybook_entry::{
 pub use item_laws::{
     items_hold_numbers, one_number, one_sent_number, stored_numbers_read_back, strict_is_any,
 };
-pub use kinds::{StorageKind, read_number, store_number};
+pub use kinds::{StorageKind, hold_number, read_number};
 pub use laws::{as_many_entries, branch_opens, node_opens, one_tree};
 pub use lengths::{MANY, element_length, whole_length};
 pub use node::{Item, Kind, Node, ResolvedOccurs};

@@ -39,8 +39,8 @@ impl Item {
     }
 }
 
-/// The number that the bytes of an item that is sent represent by a reading, at its picture's scale. Of a binary item that is read whole it has
-/// 5, 10 or 20 digits, by its 2, 4 or 8 bytes; else it has exactly its picture's digits. None exactly where the bytes represent no number.
+/// The number that the bytes of an item that is sent represent by a reading, at its picture's scale. Of a binary item that is read whole, and of a
+/// native one, it has 5, 10 or 20 digits, by its 2, 4 or 8 bytes; else it has exactly its picture's digits. None exactly where the bytes represent no number.
 pub fn read_sent(reading: Reading, item: &Item, bytes: &[u8]) -> Option<Number>
     requires number { IsNumberItem item.now }
     requires long { length bytes.now ≡ item_size item.now }
