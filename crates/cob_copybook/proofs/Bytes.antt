@@ -9,7 +9,7 @@ use Rattle.cob_picture.specs.Counts.{size, digits}
 use Rattle.cob_picture.specs.Pictures.{IsPictureOf}
 use Rattle.cob_picture.specs.Laws.{TakesBytes}
 use Rattle.cob_copybook_entry.specs.declared.kinds.Usage.{Usage}
-use Rattle.cob_copybook_entry.specs.declared.kinds.Usage.TheVariants.{Display, Binary, Packed}
+use Rattle.cob_copybook_entry.specs.declared.kinds.Usage.TheVariants.{Display, Binary, Packed, Native}
 use Rattle.cob_copybook_entry.specs.declared.kinds.Sign.{Sign}
 use Rattle.cob_copybook_clauses.specs.Entries.{is_condition}
 use Rattle.cob_copybook_entry.specs.Described.{PlainEntry}
@@ -87,6 +87,7 @@ item_takes None usage sign right zero h = tt
 item_takes (Some p) Display sign right zero h = display_takes (is_separate (acting (keeps_sign Display p) sign)) p h
 item_takes (Some p) Packed sign right zero h = omega arith
 item_takes (Some p) Binary sign right zero h = binary_takes (digits p.positions)
+item_takes (Some p) Native sign right zero h = binary_takes (digits p.positions)
 
 resolved_take : (counts : List (Option ℕ)) (n : ℕ) (usage : Option Usage) (sign : Option Sign) (f : Forest PlainEntry) → AllByRecursion EntryTakes (flat f) → TakeBytes (resolved counts n usage sign f)
 resolved_take counts n usage sign NoEntries h = tt

@@ -1,5 +1,5 @@
 -- Which number the bytes of an item represent, whatever its usage.
-use Rattle.std.specs.Prelude.{◌≡◌, ℕ, ◌<◌, nat_lt, ℤ, Bool, true, false, ◌&&◌, List, length, MatchBool, IsTrue}
+use Rattle.std.specs.Prelude.{◌≡◌, ℕ, ◌<◌, nat_lt, ℤ, Bool, true, false, ◌&&◌, if◌then◌else◌, List, length, MatchBool, IsTrue}
 use Rattle.cob_decimal.specs.Decimal.{IsDigits, number_of, aligned}
 use Rattle.cob_picture.specs.Counts.{digits, scale, signed, size}
 use Rattle.cob_picture.specs.Counts as counts
@@ -47,6 +47,10 @@ IsStorable i = MatchBool (is_number i) (IsNumberItem i) (item_size i ≡ size i.
 -- how many digits the numbers of an item have
 abbrev pub number_digits : Item → ℕ
 number_digits i = digits_as (storage_kind i) (digits i.picture.positions)
+
+-- how many digits the number has that an item gives: an edited one has those of its picture
+abbrev pub given_digits : Item → ℕ
+given_digits i = if is_number i then number_digits i else digits i.picture.positions
 
 -- A number that an item can hold: as many digits as its numbers have, and negative only where it has a sign. Zero is not negative.
 pub record IsHeldIn (i : Item) (negative : Bool) (ds : List ℕ) : Type 0 where

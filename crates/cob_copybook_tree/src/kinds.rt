@@ -10,12 +10,13 @@ ghost use Rattle.cob_codec.specs.declared.reading.Reading.{Reading};
 ghost use Rattle.cob_codec.specs.declared.reading.Reading.TheVariants.{AnyZones, Whole, WholeAnyZones};
 ghost use Rattle.cob_decimal.specs.Answers.{AnswersNumber};
 ghost use Rattle.cob_picture.specs.Counts.{digits, scale, signed};
-ghost use Rattle.cob_copybook_tree.specs.Items.{storage_kind, HoldsAligned, HoldsNumber, IsFlawOf, IsNumberItem, IsSentBy, Represents, number_digits, stored_form};
+ghost use Rattle.cob_copybook_tree.specs.Items.{storage_kind, HoldsAligned, HoldsNumber, IsFlawOf, IsNumberItem, IsSentBy, Represents, given_digits, stored_form};
 ghost use Rattle.cob_copybook_tree.specs.Lengths.{item_size};
 ghost use Rattle.cob_copybook_tree.specs.Storage.{digits_as, is_leading, is_native, is_read_whole, is_separate, is_zoned, number_words, storage_kind_by, storage_word, stored_size, AllowsPicture, IsNarrow, TakesPicture};
 ghost use Rattle.cob_copybook_tree.specs.declared.kinds.StorageKind.TheVariants as kind;
 
 use crate::Item;
+use crate::resolving::is_number;
 use cob_codec::{
     Binary, Flaw, Native, NumberFlaw, Packed, Separate, Storage, Zoned, packed_flaw, separate_flaw,
     zoned_flaw,
@@ -422,11 +423,16 @@ impl Item {
         StorageKind::of(self.usage, self.sign)
     }
 
-    /// How many digits its numbers have: those of its picture, and of a native item 5, 10 or 20, by its 2, 4 or 8 bytes.
+    /// How many digits the numbers that it gives have: those of its picture, and of a native item 5, 10 or 20, by its 2, 4 or 8 bytes.
     pub fn digits(&self) -> u8
-        ensures { result ≡ number_digits self.now }
+        ensures { result ≡ given_digits self.now }
     {
-        self.storage_kind().digits(self.picture.digits())
+        let digits = self.picture.digits();
+        if is_number(self) {
+            self.storage_kind().digits(digits)
+        } else {
+            digits
+        }
     }
 
     /// Its bytes, the one of a separate sign with them.

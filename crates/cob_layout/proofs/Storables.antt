@@ -6,7 +6,7 @@ use Rattle.cob_picture.specs.Counts.{size, signed}
 use Rattle.cob_picture.specs.declared.category.Category.{Category}
 use Rattle.cob_picture.specs.declared.category.Category.TheVariants.{Alphabetic, Numeric, Alphanumeric, AlphanumericEdited, NumericEdited}
 use Rattle.cob_copybook_entry.specs.declared.kinds.Usage.{Usage}
-use Rattle.cob_copybook_entry.specs.declared.kinds.Usage.TheVariants.{Display, Binary, Packed}
+use Rattle.cob_copybook_entry.specs.declared.kinds.Usage.TheVariants.{Display, Binary, Packed, Native}
 use Rattle.cob_copybook_entry.specs.declared.kinds.Sign.{Sign}
 use Rattle.cob_copybook_entry.specs.Described.{PlainEntry}
 use Rattle.cob_copybook_tree.specs.declared.node.Item.{Item}
@@ -36,6 +36,7 @@ display_taken true sign p e = by_kind (is_separate sign)
 taken : (usage : Usage) (sign : Option Sign) (p : PlainPicture) → Takes usage p → is_numeric p.category ≡ true → TakesPicture (storage_kind_by usage (acting (keeps_sign usage p) sign)) p
 taken Packed sign p h numeric = tt
 taken Binary sign p h numeric = h.1.0
+taken Native sign p h numeric = h.1.0
 taken Display sign p h numeric =
     subst (λ (b : Bool). TakesPicture (display_kind (is_separate (acting (b && signed p.positions) sign))) p) (sym numeric) (display_taken (signed p.positions) sign p refl)
 
@@ -53,6 +54,7 @@ other_size : (usage : Usage) (sign : Option Sign) (p : PlainPicture) → Takes u
 other_size Display sign p h other = display_size sign p (keeps_sign Display p) (ap (λ (b : Bool). b && signed p.positions) other)
 other_size Packed sign p h other = absurd (let e : true ≡ false = sym h.0 ∙ other in cc)
 other_size Binary sign p h other = absurd (let e : true ≡ false = sym h.0 ∙ other in cc)
+other_size Native sign p h other = absurd (let e : true ≡ false = sym h.0 ∙ other in cc)
 
 no_sign : (b : Bool) → (b && false) ≡ false
 no_sign false = refl
@@ -64,6 +66,7 @@ unsigned_size Display sign p display unsigned =
     display_size sign p (keeps_sign Display p) (ap (λ (b : Bool). is_numeric p.category && b) unsigned ∙ no_sign (is_numeric p.category))
 unsigned_size Packed sign p display unsigned = absurd (cc)
 unsigned_size Binary sign p display unsigned = absurd (cc)
+unsigned_size Native sign p display unsigned = absurd (cc)
 
 -- what BLANK WHEN ZERO may edit is no number, or an unsigned DISPLAY one
 blank_size : (c : Category) (usage : Usage) (sign : Option Sign) (p : PlainPicture) → p.category ≡ c → Takes usage p → CanBeBlank c usage p.positions → HasBytes usage sign p

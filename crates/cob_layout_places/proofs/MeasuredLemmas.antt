@@ -44,6 +44,7 @@ few_displayed : (u : Usage) (n : ℕ) → displayed u n ≤ n
 few_displayed usage.Display n = omega arith
 few_displayed usage.Packed n = omega arith
 few_displayed usage.Binary n = omega arith
+few_displayed usage.Native n = omega arith
 
 few_of : (k : Kind) (f : Forest Resolved) → characters_of k f ≤ length_by_kind k (sum_of greatest_number f)
 few_of Group f = few_if (varies f) (sum_of greatest_number f)

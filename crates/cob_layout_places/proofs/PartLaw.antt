@@ -53,6 +53,7 @@ item_length : (u : Usage) (size n : ℕ) → displayed u size ≡ n → 0 < n �
 item_length usage.Display size n e some = e
 item_length usage.Packed size n e some = absurd (omega (arith, e, some))
 item_length usage.Binary size n e some = absurd (omega (arith, e, some))
+item_length usage.Native size n e some = absurd (omega (arith, e, some))
 
 pub element_has : (c : List ℕ) (k : Kind) (f : Forest Resolved) (n : ℕ) → characters_of k f ≡ n → 0 < n → length_by_kind k (sum_of (times c) f) ≡ n
 element_has c Group f n e some = group_length (varies f) (sum_of (times c) f) n c f (λ none. steady_sum c f none) e some

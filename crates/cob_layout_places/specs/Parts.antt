@@ -23,6 +23,7 @@ abbrev pub displayed : Usage → ℕ → ℕ
 displayed usage.Display n = n
 displayed usage.Packed n = 0
 displayed usage.Binary n = 0
+displayed usage.Native n = 0
 
 -- How many characters an element has of which a part may be named: a byte is one in a DISPLAY item, and in a group in which no table varies; nothing else has
 -- any.

@@ -35,7 +35,7 @@ pub fn characters_of(entry: &Node) -> u32
     match &entry.kind {
         Kind::Item(item) => match item.usage {
             Usage::Display => u32::from(item.size()),
-            Usage::Packed | Usage::Binary => 0,
+            Usage::Packed | Usage::Binary | Usage::Native => 0,
         },
         Kind::Group => {
             if varies_beneath(entry) {

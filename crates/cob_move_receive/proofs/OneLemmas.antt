@@ -1,6 +1,7 @@
 -- A receiver gets one thing.
 use Rattle.std.proofs.Common.{◌≡◌, ℕ, Bool, true, false, ◌&&◌, nat_lt, List, refl, sym, ap, subst, ◌∙◌, Option, Some, None}
 use Rattle.std.specs.Prelude.{MatchBool, ℤ}
+use Rattle.cob_codec.specs.Native.{HoldsNative}
 use Rattle.cob_codec.specs.declared.reading.Reading.{Reading}
 use Rattle.cob_decimal.specs.Decimal.{number_of}
 use Rattle.cob_decimal.specs.Laws.{OneList}
@@ -19,7 +20,8 @@ use Rattle.cob_copybook_tree.specs.declared.node.Kind.{Kind}
 use Rattle.cob_copybook_tree.specs.declared.node.Kind.TheVariants.{Group, Item as ItemKind}
 use Rattle.cob_copybook_tree.specs.declared.node.Item.{Item}
 use Rattle.cob_copybook_tree.specs.Resolving.{is_number}
-use Rattle.cob_copybook_tree.specs.Items.{OneSentNumber, stored_form}
+use Rattle.cob_copybook_tree.specs.Items.{HoldsNumber, OneSentNumber, storage_kind, stored_form}
+use Rattle.cob_copybook_tree.specs.Storage.{is_native}
 use Rattle.cob_move_receive.proofs.CharacterLemmas as characters
 use Rattle.cob_move_receive.specs.Sent.{Sent, Entry, Literal, Amount}
 use Rattle.cob_move_receive.specs.Characters.{GivesConstant, GivesDigits, GivesCharacters, Placement, FromLeft, FromRight, Among, Arranged, padded, repeated, placement, numerals_to_point}
@@ -121,10 +123,15 @@ one_stored law i v a b x y =
     let minus : x.minus ≡ y.minus = x.sign ∙ ap (λ ds. v.negative && (counts.signed i.picture.positions && nat_lt 0 (number_of ds))) digits ∙ sym y.sign in
     x.stored ∙ ap (λ m. stored_form i m x.digits) minus ∙ ap (stored_form i y.minus) digits ∙ sym y.stored
 
+one_kept : OneList → (i : Item) (v : Amount) (a b : List ℕ) → HoldsNumber i v.negative v.digits v.scale a → HoldsNumber i v.negative v.digits v.scale b → a ≡ b
+one_kept law i v a b x y =
+    one_of (is_native (storage_kind i)) (HoldsNative (counts.digits i.picture.positions) (counts.scale i.picture.positions) (v.negative && counts.signed i.picture.positions) (number_of v.digits) v.scale)
+    (HoldsAligned i v) a b (λ p q. p ∙ sym q) (one_stored law i v a b) x y
+
 one_held : Laws → (i : Item) (v : Amount) (a b : List ℕ) → HoldsAmount i v a → HoldsAmount i v b → a ≡ b
 one_held law i v a b x y =
-    one_of (is_number i) (HoldsAligned i v) (IsEdited i.picture i.blank v.negative v.digits v.scale) a b
-    (one_stored law.list i v a b) (law.text i.picture i.blank v.negative v.digits v.scale a b) x y
+    one_of (is_number i) (HoldsNumber i v.negative v.digits v.scale) (IsEdited i.picture i.blank v.negative v.digits v.scale) a b
+    (one_kept law.list i v a b) (law.text i.picture i.blank v.negative v.digits v.scale a b) x y
 
 one_counted : Laws → (s : Sent) (i : Item) (a b : Option (List ℕ)) → GetsNumber s i a → GetsNumber s i b → a ≡ b
 one_counted law s i (Some a) (Some b) (v, p, x) (w, q, y) =

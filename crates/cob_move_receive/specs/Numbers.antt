@@ -1,13 +1,11 @@
 -- The number that a sender gives, and what a receiver holds of it.
-use Rattle.std.specs.Prelude.{◌≡◌, ℕ, ◌-◌, ◌<◌, ◌≤◌, pos, Bool, true, false, ◌&&◌, nat_lt, nat_le, List, [], length, map, MatchBool}
+use Rattle.std.specs.Prelude.{◌≡◌, ℕ, ◌-◌, ◌<◌, ◌≤◌, pos, Bool, true, false, ◌&&◌, nat_le, List, [], length, map, MatchBool}
 use Rattle.std.specs.List.{AllByRecursion}
 use Rattle.cob_cp037.specs.Named.{nine_byte, zero_byte}
 use Rattle.cob_limits.specs.Limits.{most_digits}
 use Rattle.cob_codec.specs.declared.reading.Reading.{Reading}
-use Rattle.cob_decimal.specs.Decimal.{IsDigits, number_of, aligned}
 use Rattle.cob_decimal.specs.Literals.{AreDigits, digits_in}
 use Rattle.cob_picture.specs.Counts.{scale}
-use Rattle.cob_picture.specs.Counts as counts
 use Rattle.cob_picture.specs.declared.category.Category.{Category}
 use Rattle.cob_picture.specs.declared.category.Category.TheVariants.{Alphabetic, Numeric, Alphanumeric, AlphanumericEdited, NumericEdited}
 use Rattle.cob_copybook_entry.specs.declared.kinds.Figurative.{Figurative}
@@ -18,7 +16,8 @@ use Rattle.cob_copybook_entry.specs.Described as constant
 use Rattle.cob_copybook_tree.specs.declared.node.Kind.TheVariants.{Group, Item as ItemKind}
 use Rattle.cob_copybook_tree.specs.declared.node.Item.{Item}
 use Rattle.cob_copybook_tree.specs.Resolving.{is_number}
-use Rattle.cob_copybook_tree.specs.Items.{IsSentBy, stored_form}
+use Rattle.cob_copybook_tree.specs.Items.{HoldsNumber, IsSentBy}
+use Rattle.cob_copybook_tree.specs.Items as items
 use Rattle.cob_move_receive.specs.Sent.{Sent, Entry, Literal, Amount}
 
 -- a whole number that isn't negative
@@ -95,19 +94,11 @@ GivesNumber (Entry Group bytes reading) v = ⊥
 GivesNumber (Entry (ItemKind i) bytes reading) v = ItemGives reading i bytes v
 GivesNumber (Literal c) v = ConstantGives c v
 
--- The item's bytes are what this number leaves in it: its digits aligned by the point, and a minus only where the item has a sign and something
--- is left, in the item's kind of storage.
-pub record HoldsAligned (i : Item) (v : Amount) (bytes : List ℕ) : Type 0 where
-  pub digits : List ℕ
-  pub valid : IsDigits digits
-  pub count : length digits ≡ counts.digits i.picture.positions
-  pub value : number_of digits ≡ aligned (number_of v.digits) v.scale (counts.scale i.picture.positions) (counts.digits i.picture.positions)
-  pub minus : Bool
-  pub sign : minus ≡ (v.negative && (counts.signed i.picture.positions && nat_lt 0 (number_of digits)))
-  pub stored : bytes ≡ stored_form i minus digits
+-- The bytes of an item that is not native are what this number leaves in it: its digits aligned by the point.
+abbrev pub HoldsAligned : Item → Amount → List ℕ → Type 0
+HoldsAligned i v bytes = items.HoldsAligned i v.negative v.digits v.scale bytes
 
--- What a numeric or numeric edited item holds after this number is moved to it: the number aligned by the point and stored in the item's kind
--- of storage, or its text.
+-- What a numeric or numeric edited item holds after this number is moved to it: what the number leaves in the item's kind of storage, or its text.
 abbrev pub HoldsAmount : Item → Amount → List ℕ → Type 0
 HoldsAmount i v bytes =
-    MatchBool (is_number i) (HoldsAligned i v bytes) (IsEdited i.picture i.blank v.negative v.digits v.scale bytes)
+    MatchBool (is_number i) (HoldsNumber i v.negative v.digits v.scale bytes) (IsEdited i.picture i.blank v.negative v.digits v.scale bytes)

@@ -14,7 +14,7 @@ ghost use Rattle.cob_move_receive.specs.Numbers.{whole_number, digits_of, is_num
 
 use crate::sent::Sent;
 use cob_codec::Reading;
-use cob_copybook_tree::{Figurative, Item, Kind, Value, is_number, read_sent, store_number};
+use cob_copybook_tree::{Figurative, Item, Kind, Value, hold_number, is_number, read_sent};
 use cob_cp037::{NINE, ZERO};
 use cob_decimal::{Digits, Number, are_digits};
 use cob_edit::{deedit, edit};
@@ -165,7 +165,7 @@ pub(crate) fn number_given(given: &Sent<'_>) -> Option<Number>
     }
 }
 
-/// Writes what a numeric or numeric edited item holds of a number: its digits aligned by the point, stored or edited.
+/// Writes what a numeric or numeric edited item holds of a number: what the number leaves in its kind of storage, or its text.
 pub(crate) fn hold(item: &Item, number: &Number, bytes: &mut [u8])
     requires storable { IsStorable item.now }
     requires shows { IsTrue (shows_number item.now.picture.category) }
@@ -173,9 +173,7 @@ pub(crate) fn hold(item: &Item, number: &Number, bytes: &mut [u8])
     ensures { HoldsAmount item.now (amount number.now) bytes.new }
 {
     if is_number(item) {
-        let picture = &item.picture;
-        let aligned = number.align(picture.digits(), picture.scale(), picture.signed());
-        store_number(item, &aligned, bytes);
+        hold_number(item, number, bytes);
     } else {
         edit(&item.picture, item.blank, number, bytes);
     }

@@ -28,7 +28,7 @@ use Rattle.cob_move_steps.specs.Steps.{received_form}
 use Rattle.cob_move_steps.specs.Ends.{GivesSigned, IsNumberWriterFor, item_digits, SendsNumber}
 use Rattle.cob_move_steps.specs.declared.number_ends.NumberWriter.{NumberWriter}
 use Rattle.cob_move_steps.proofs.GivenLemmas.{gives_scaled}
-use Rattle.cob_move_steps.proofs.StepLemmas.{holds, match_true, not_false, not_true, number_item, number_shows}
+use Rattle.cob_move_steps.proofs.StepLemmas.{holds, holds_amount, match_true, not_false, not_true, number_item, number_shows}
 
 -- ---- binary items
 
@@ -80,7 +80,7 @@ moved_number s r w reading bytes told minus left zero_is kept new n is size numb
     match_true (shows_number r.picture.category) (GetsNumber (Entry (ItemKind s) item reading) r (Some new)) (GetsCharacters (Entry (ItemKind s) item reading) (ItemKind r) n (Some new)) (number_shows r (number_item r is.number)) (
       v,
       a.represented,
-      match_true (is_number r) (HoldsAligned r v new) (IsEdited r.picture r.blank v.negative v.digits v.scale new) (number_item r is.number) h,
+      holds_amount r v new is.number is.bound h,
     )
 
 pub no_number_moved : (s r : Item) (w : NumberWriter) (reading : Reading) (bytes : List ℕ) (told minus : Bool) (kept new : List ℕ) (n : ℕ) → IsNumberWriterFor r w → SendsNumber s → not told ≡ true

@@ -19,7 +19,7 @@ use Rattle.cob_codec_lanes.specs.Readers.{AreRead}
 use Rattle.cob_codec_lanes.specs.Words.{IsNumberRead}
 use Rattle.cob_codec_lanes.proofs.WantedLemmas.{wanted_aligned, wanted_valid, wanted_tens, none_aligned}
 use Rattle.cob_move_receive.specs.Sent.{Amount, Entry}
-use Rattle.cob_move_receive.specs.Numbers.{HoldsAligned}
+use Rattle.cob_copybook_tree.specs.Items.{HoldsNumber}
 use Rattle.cob_move_receive.specs.Received.{Received, GetsNumber, GetsCharacters, outcome}
 use Rattle.cob_move_steps.specs.Ends.{GivesSigned, SendsNumber}
 use Rattle.cob_move_steps.specs.Texts.{AreLed, IsPlainlyEdited, MakesTextsFor}
@@ -76,7 +76,7 @@ edited_as s r reading bytes told minus kept new n receives few number read there
     match_true (shows_number r.picture.category) (GetsNumber (Entry (ItemKind s) item reading) r (Some new)) (GetsCharacters (Entry (ItemKind s) item reading) (ItemKind r) n (Some new)) receives.shows (
       v,
       a.represented,
-      match_false (is_number r) (HoldsAligned r v new) (IsEdited r.picture r.blank v.negative v.digits v.scale new) receives.edited h,
+      match_false (is_number r) (HoldsNumber r v.negative v.digits v.scale new) (IsEdited r.picture r.blank v.negative v.digits v.scale new) receives.edited h,
     )
 
 -- the same, where it was made of what is kept

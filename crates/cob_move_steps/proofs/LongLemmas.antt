@@ -12,8 +12,8 @@ use Rattle.cob_copybook_tree.specs.declared.kinds.StorageKind.TheVariants as kin
 use Rattle.cob_copybook_tree.specs.declared.node.Item.{Item}
 use Rattle.cob_copybook_tree.specs.declared.node.Kind.TheVariants.{Item as ItemKind}
 use Rattle.cob_copybook_tree.specs.Resolving.{is_number, is_numeric}
-use Rattle.cob_copybook_tree.specs.Items.{IsNumberItem, IsSentBy, storage_kind}
-use Rattle.cob_copybook_tree.specs.Storage.{SentAs, is_leading}
+use Rattle.cob_copybook_tree.specs.Items.{HoldsNumber, IsNumberItem, IsSentBy, storage_kind}
+use Rattle.cob_copybook_tree.specs.Storage.{SentAs, is_leading, is_native}
 use Rattle.cob_copybook_tree.specs.Lengths.{item_size}
 use Rattle.cob_edit.specs.Pictured.{IsEdited}
 use Rattle.cob_codec_lanes.specs.Lanes.{AreTens, AreZero}
@@ -23,7 +23,7 @@ use Rattle.cob_codec_lanes.specs.Windows.{last_bytes}
 use Rattle.cob_move_receive.specs.Sent.{Amount, Entry}
 use Rattle.cob_move_receive.specs.Numbers.{AreNumerals, GivesUnder, HoldsAligned, IsNumberIn, IsReadAs, ItemGives, digits_of}
 use Rattle.cob_move_receive.specs.Received.{Received, GetsNumber, GetsCharacters, outcome}
-use Rattle.cob_move_steps.specs.Ends.{GivesSigned, item_digits}
+use Rattle.cob_move_steps.specs.Ends.{GivesSigned, IsBoundNumber, item_digits}
 use Rattle.cob_move_steps.specs.Long.{IsCharacterNumber, IsLongNumberStep, IsLongReceiverFor, IsLongWriterFor, SendsAnyLong, SendsLong}
 use Rattle.cob_move_steps.specs.LongDigits.{last_count, long_digits}
 use Rattle.cob_move_steps.specs.Texts.{IsPlainlyEdited}
@@ -37,7 +37,7 @@ use Rattle.cob_move_steps.proofs.GivenLemmas.{at_scale, from_false, gives_scaled
 use Rattle.cob_move_steps.proofs.AnyNumberLemmas.{left_nonzero, size_is}
 use Rattle.cob_move_steps.proofs.EditLemmas.{edited_of_sent}
 use Rattle.cob_move_steps.proofs.LongDigits.{AreLongDigits, long_are}
-use Rattle.cob_move_steps.proofs.StepLemmas.{holds_digits, match_true, not_false, not_true, number_item, number_shows}
+use Rattle.cob_move_steps.proofs.StepLemmas.{holds_amount, holds_digits, match_true, not_false, not_true, number_item, number_shows}
 
 -- ---- what is read
 
@@ -119,7 +119,7 @@ characters_wide reading i bytes front back is_number minus n long read =
 gives_long : (reading : Reading) (i : Item) (bytes : List ℕ) (v : Amount) → SendsLong i → ItemGives reading i bytes v → GivesSigned reading i bytes v.negative v.digits
 gives_long reading i bytes v sends g =
     elim sends [
-      | inl n ↦ number_gives reading i bytes v.negative v.digits n (number_sent reading i bytes v n g)
+      | inl n ↦ number_gives reading i bytes v.negative v.digits n.number (number_sent reading i bytes v n.number g)
       | inr n ↦
           let r : IsReadAs bytes v = characters_read reading i bytes v n g in
           characters_gives reading i bytes (at_scale i v.negative v.digits) n (record {
@@ -140,13 +140,13 @@ gives_any_long reading i bytes v sends g =
 -- ---- what is moved
 
 -- such a receiver is a number
-pub long_number : (to : Item) (w : LongWriter) → IsLongWriterFor to w → IsNumberItem to
-long_number to (writer.Short w) is = is.number
-long_number to (writer.Packed w) is = is.number
-long_number to (writer.Digits w) is = is.number
-long_number to (writer.Word w) is = is.number
+pub long_number : (to : Item) (w : LongWriter) → IsLongWriterFor to w → IsBoundNumber to
+long_number to (writer.Short w) is = record { number = is.number; bound = is.bound }
+long_number to (writer.Packed w) is = record { number = is.number; bound = is.bound }
+long_number to (writer.Digits w) is = record { number = is.number; bound = is.bound }
+long_number to (writer.Word w) is = record { number = is.number; bound = ap is_native is.binary }
 
-pub moved_long : (s r : Item) (step : LongStep) (reading : Reading) (item front back first last new : List ℕ) (told minus left zero_is : Bool) (n : ℕ) → IsLongNumberStep s r step → IsNumberItem r → n ≡ item_size r → not told ≡ false
+pub moved_long : (s r : Item) (step : LongStep) (reading : Reading) (item front back first last new : List ℕ) (told minus left zero_is : Bool) (n : ℕ) → IsLongNumberStep s r step → IsBoundNumber r → n ≡ item_size r → not told ≡ false
     → IsWideRead (GivesSigned reading s item) told minus front back
     → ((number wanted : ℕ) (shift : ℤ) → IsWideKeeperOf wanted shift step.front → AreHeldWide number front back → AreWanted wanted shift number first)
     → ((number wanted : ℕ) (shift : ℤ) → IsWideKeeperOf wanted shift step.back → AreHeldWide number front back → AreWanted wanted shift number last)
@@ -167,10 +167,10 @@ moved_long s r step reading item front back first last new told minus left zero_
     let some : IsTrue left → 0 < number_of ds = λ t. left_nonzero minus zero_is (number_of ds) (λ e. nothing.1 e) (subst (λ b. IsTrue b) left_is t) in
     let stored : new ≡ received_form r (minus && not zero_is) ds = written d.front_tens d.back_tens some ∙ ap (λ b. received_form r b ds) left_is in
     let h : HoldsAligned r v new = holds_digits s r minus a.negative zero_is a.digits ds new a.sign d.valid d.long d.value nothing stored in
-    match_true (shows_number r.picture.category) (GetsNumber (Entry (ItemKind s) item reading) r (Some new)) (GetsCharacters (Entry (ItemKind s) item reading) (ItemKind r) n (Some new)) (number_shows r (number_item r receives)) (
+    match_true (shows_number r.picture.category) (GetsNumber (Entry (ItemKind s) item reading) r (Some new)) (GetsCharacters (Entry (ItemKind s) item reading) (ItemKind r) n (Some new)) (number_shows r (number_item r receives.number)) (
       v,
       a.represented,
-      match_true (is_number r) (HoldsAligned r v new) (IsEdited r.picture r.blank v.negative v.digits v.scale new) (number_item r receives) h,
+      holds_amount r v new receives.number receives.bound h,
     )
 
 -- an edited receiver
@@ -194,12 +194,12 @@ moved_to_text s r step reading item front back first last new told minus n is re
     match_true (shows_number r.picture.category) (GetsNumber (Entry (ItemKind s) item reading) r (Some new)) (GetsCharacters (Entry (ItemKind s) item reading) (ItemKind r) n (Some new)) receives.shows (
       v,
       a.represented,
-      match_false (is_number r) (HoldsAligned r v new) (IsEdited r.picture r.blank v.negative v.digits v.scale new) receives.edited h,
+      match_false (is_number r) (HoldsNumber r v.negative v.digits v.scale new) (IsEdited r.picture r.blank v.negative v.digits v.scale new) receives.edited h,
     )
 
 -- a receiver shows a number
 receiver_shows : (r : Item) (w : LongReceiver) → IsLongReceiverFor r w → shows_number r.picture.category ≡ true
-receiver_shows r (receiver.Number w) is = number_shows r (number_item r (long_number r w is))
+receiver_shows r (receiver.Number w) is = number_shows r (number_item r (long_number r w is).number)
 receiver_shows r (receiver.Text w) is = is.edited.plainly.shows
 receiver_shows r (receiver.Characters w) is = absurd is
 

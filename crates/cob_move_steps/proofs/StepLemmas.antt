@@ -11,7 +11,9 @@ use Rattle.cob_codec.specs.declared.reading.Reading.{Reading}
 use Rattle.cob_copybook_tree.specs.declared.node.Item.{Item}
 use Rattle.cob_copybook_tree.specs.declared.node.Kind.TheVariants.{Item as ItemKind}
 use Rattle.cob_copybook_tree.specs.Resolving.{is_numeric, is_number}
-use Rattle.cob_copybook_tree.specs.Items.{IsNumberItem, IsSentBy}
+use Rattle.cob_copybook_tree.specs.Items.{HoldsNumber, IsNumberItem, IsSentBy, storage_kind}
+use Rattle.cob_copybook_tree.specs.Storage.{is_native}
+use Rattle.cob_copybook_tree.proofs.ItemLemmas.{aligned_held}
 use Rattle.cob_copybook_tree.specs.Lengths.{item_size}
 use Rattle.cob_edit.specs.Pictured.{IsEdited}
 use Rattle.cob_codec_lanes.specs.Lanes.{AreTens, AreZero}
@@ -22,7 +24,7 @@ use Rattle.cob_codec_lanes.specs.Writers.{AreMade}
 use Rattle.cob_codec_lanes.specs.declared.reader.LaneReader.{LaneReader}
 use Rattle.cob_codec_lanes.proofs.WantedLemmas.{wanted_aligned, wanted_valid, wanted_tens, wanted_zero, none_aligned, minus_is}
 use Rattle.cob_move_receive.specs.Sent.{Amount, Entry}
-use Rattle.cob_move_receive.specs.Numbers.{IsNumberIn, HoldsAligned, GivesUnder}
+use Rattle.cob_move_receive.specs.Numbers.{IsNumberIn, HoldsAligned, HoldsAmount, GivesUnder}
 use Rattle.cob_move_receive.specs.Received.{Received, GetsNumber, GetsCharacters, outcome}
 use Rattle.cob_move_steps.specs.Steps.{IsItemReader, IsNumberStep, received_form}
 use Rattle.cob_move_steps.specs.declared.step.NumberStep.{NumberStep}
@@ -54,6 +56,12 @@ not_true false e = refl
 pub not_false : (b : Bool) → not b ≡ false → b ≡ true
 not_false true e = refl
 not_false false e = sym e
+
+-- a number that its picture bounds holds what is aligned
+pub holds_amount : (r : Item) (v : Amount) (new : List ℕ) → IsNumberItem r → is_native (storage_kind r) ≡ false → HoldsAligned r v new → HoldsAmount r v new
+holds_amount r v new number bound h =
+    match_true (is_number r) (HoldsNumber r v.negative v.digits v.scale new) (IsEdited r.picture r.blank v.negative v.digits v.scale new) (number_item r number)
+    (aligned_held r v.negative v.digits v.scale new bound h)
 
 -- what is written of aligned digits is what the receiver holds of the number
 pub holds_digits : (s r : Item) (minus negative zero_is : Bool) (sent ds new : List ℕ) → IsSigned minus sent negative → IsDigits ds → length ds ≡ digits r.picture.positions
@@ -131,7 +139,7 @@ moved s r step reading bytes told minus left zero_is kept made new n is keeps wi
     match_true (shows_number r.picture.category) (GetsNumber (Entry (ItemKind s) item reading) r (Some new)) (GetsCharacters (Entry (ItemKind s) item reading) (ItemKind r) n (Some new)) (number_shows r (number_item r is.receives)) (
       v,
       match_true (is_number s) (IsNumberIn reading s item v) (GivesUnder s.picture.category s item v) (number_item s is.sends) gives,
-      match_true (is_number r) (HoldsAligned r v new) (IsEdited r.picture r.blank v.negative v.digits v.scale new) (number_item r is.receives) h,
+      holds_amount r v new is.receives is.bound h,
     )
 
 pub not_moved : (s r : Item) (step : NumberStep) (reading : Reading) (bytes : List ℕ) (told minus : Bool) (kept new : List ℕ) (n : ℕ) → IsNumberStep s r step → KeepsZones reading → item_size s ≤ length bytes

@@ -31,7 +31,7 @@ use Rattle.cob_move_steps.specs.Steps.{IsItemReader, received_form}
 use Rattle.cob_move_steps.specs.Wide.{IsWideStep}
 use Rattle.cob_move_steps.specs.declared.wide_step.WideStep.{WideStep}
 use Rattle.cob_move_steps.proofs.KindLemmas.{packed_same}
-use Rattle.cob_move_steps.proofs.StepLemmas.{from_match, holds_digits, match_true, not_false, not_true, number_item, number_shows}
+use Rattle.cob_move_steps.proofs.StepLemmas.{from_match, holds_amount, holds_digits, match_true, not_false, not_true, number_item, number_shows}
 
 -- ---- made ready
 
@@ -95,7 +95,7 @@ moved_wide s r step reading bytes front back text new told minus left zero_is n 
     match_true (shows_number r.picture.category) (GetsNumber (Entry (ItemKind s) item reading) r (Some new)) (GetsCharacters (Entry (ItemKind s) item reading) (ItemKind r) n (Some new)) (number_shows r (number_item r is.receives)) (
       v,
       match_true (is_number s) (IsNumberIn reading s item v) (GivesUnder s.picture.category s item v) (number_item s is.sends) gives,
-      match_true (is_number r) (HoldsAligned r v new) (IsEdited r.picture r.blank v.negative v.digits v.scale new) (number_item r is.receives) h,
+      holds_amount r v new is.receives is.bound h,
     )
 
 pub not_moved_wide : (s r : Item) (step : WideStep) (reading : Reading) (item back new : List ℕ) (told minus : Bool) (n : ℕ) → IsWideStep s r step → not told ≡ true

@@ -1,5 +1,5 @@
 -- What reads the number that an item gives, and what writes that of another, of each kind of storage.
-use Rattle.std.specs.Prelude.{◌≡◌, ◌⊎◌, ◌≤◌, ◌-ℤ◌, ℕ, pos, true, List, length, ◌<◌, Bool, IsTrue, take}
+use Rattle.std.specs.Prelude.{◌≡◌, ◌⊎◌, ◌≤◌, ◌-ℤ◌, ℕ, pos, true, false, List, length, ◌<◌, Bool, IsTrue, take}
 use Rattle.cob_decimal.specs.Decimal.{number_of}
 use Rattle.cob_picture.specs.Counts.{digits, scale, signed}
 use Rattle.cob_picture.specs.declared.category.Category.TheVariants.{Alphanumeric}
@@ -9,7 +9,7 @@ use Rattle.cob_codec.specs.declared.reading.Reading.TheVariants.{Pictured}
 use Rattle.cob_copybook_tree.specs.declared.node.Item.{Item}
 use Rattle.cob_copybook_tree.specs.declared.kinds.StorageKind.TheVariants.{Binary}
 use Rattle.cob_copybook_tree.specs.Items.{IsNumberItem, storage_kind}
-use Rattle.cob_copybook_tree.specs.Storage.{is_read_whole}
+use Rattle.cob_copybook_tree.specs.Storage.{is_native, is_read_whole}
 use Rattle.cob_copybook_tree.specs.Lengths.{item_size}
 use Rattle.cob_codec_lanes.specs.Lanes.{AreTens}
 use Rattle.cob_codec_lanes.specs.Readers.{AreNumeralsOf, IsReaderOf}
@@ -30,6 +30,11 @@ use Rattle.cob_move_steps.specs.declared.number_ends.NumberWriter.TheVariants as
 -- how many digits an item has
 abbrev pub item_digits : Item → ℕ
 item_digits i = digits i.picture.positions
+
+-- The item is a number that its picture's digits bound: it isn't native.
+pub record IsBoundNumber (i : Item) : Type 0 where
+  pub number : IsNumberItem i
+  pub bound : is_native (storage_kind i) ≡ false
 
 -- The item is a binary number of at most sixteen digits.
 pub record IsWordItem (i : Item) : Type 0 where
@@ -99,6 +104,7 @@ pub record IsNumberReaderFor (from to : Item) (r : NumberReader) : Type 0 where
 -- The writer writes the numbers of an item, of at most sixteen digits.
 pub record IsNumberWriterFor (to : Item) (w : NumberWriter) : Type 0 where
   pub number : IsNumberItem to
+  pub bound : is_native (storage_kind to) ≡ false
   pub few : item_digits to ≤ 16
   pub own : IsOwnWriter to w
 

@@ -1,5 +1,5 @@
 -- Single moves of numbers of any number of digits that are made ready: of numbers, characters and edited items, to numbers, edited items and characters.
-use Rattle.std.specs.Prelude.{◌≡◌, ◌⊎◌, ℕ, ◌-◌, ◌<◌, ◌≤◌, pos, ◌-ℤ◌, Bool, IsTrue, List, length, Option}
+use Rattle.std.specs.Prelude.{◌≡◌, ◌⊎◌, ℕ, ◌-◌, ◌<◌, ◌≤◌, pos, ◌-ℤ◌, Bool, false, IsTrue, List, length, Option}
 use Rattle.cob_decimal.specs.Decimal.{number_of}
 use Rattle.cob_picture.specs.Counts.{scale, signed}
 use Rattle.cob_picture.specs.declared.category.Category.TheVariants.{Alphanumeric}
@@ -9,6 +9,7 @@ use Rattle.cob_copybook_tree.specs.declared.kinds.StorageKind.TheVariants.{Binar
 use Rattle.cob_copybook_tree.specs.declared.node.Item.{Item}
 use Rattle.cob_copybook_tree.specs.Items.{IsNumberItem, IsSentBy, storage_kind}
 use Rattle.cob_copybook_tree.specs.Lengths.{item_size}
+use Rattle.cob_copybook_tree.specs.Storage.{is_native}
 use Rattle.cob_codec_lanes.specs.DigitItems.{IsDigitReaderOf, IsDigitWriterOf}
 use Rattle.cob_codec_lanes.specs.Lanes.{AreTens}
 use Rattle.cob_codec_lanes.specs.Pairs.{IsPairReaderOf}
@@ -23,7 +24,7 @@ use Rattle.cob_codec_lanes.specs.declared.pair_reader.PairReader.{PairReader}
 use Rattle.cob_codec_lanes.specs.declared.wide_word.WideWordReader.{WideWordReader}
 use Rattle.cob_codec_lanes.specs.declared.wide_word.WideWordWriter.{WideWordWriter}
 use Rattle.cob_codec_lanes.specs.declared.wide_writer.WideWriter.{WideWriter}
-use Rattle.cob_move_steps.specs.Ends.{GivesSigned, IsNumberWriterFor, item_digits, SuitsReading}
+use Rattle.cob_move_steps.specs.Ends.{GivesSigned, IsBoundNumber, IsNumberWriterFor, item_digits, SuitsReading}
 use Rattle.cob_move_steps.specs.LongDigits.{last_count, long_digits}
 use Rattle.cob_move_steps.specs.LongNumerals.{AreLongNumeralsFor, HaveLongNumerals}
 use Rattle.cob_move_steps.specs.LongReads.{IsLongTextReaderFor}
@@ -47,9 +48,9 @@ pub record IsCharacterNumber (i : Item) : Type 0 where
   pub some : 0 < item_size i
   pub most : item_size i ≤ 31
 
--- The item is a number, or characters that may be one.
+-- The item is a number that its picture bounds, or characters that may be one.
 abbrev pub SendsLong : Item → Type 0
-SendsLong i = IsNumberItem i ⊎ IsCharacterNumber i
+SendsLong i = IsBoundNumber i ⊎ IsCharacterNumber i
 
 -- The item is one of these, or edits a number in at most forty-eight bytes.
 abbrev pub SendsAnyLong : Item → Type 0
@@ -99,11 +100,13 @@ IsLongRead r bytes is_number minus front back =
 -- The writer writes packed numbers of more than sixteen digits.
 pub record IsPackedWriterFor (to : Item) (w : WideWriter) : Type 0 where
   pub number : IsNumberItem to
+  pub bound : is_native (storage_kind to) ≡ false
   pub writes : IsWideWriterOf (received_form to) (item_digits to) (item_size to) w
 
 -- The writer writes numbers of sixteen digits and more that have a byte for each.
 pub record AreDigitsWrittenFor (to : Item) (w : DigitWriter) : Type 0 where
   pub number : IsNumberItem to
+  pub bound : is_native (storage_kind to) ≡ false
   pub writes : IsDigitWriterOf (received_form to) (item_digits to) (item_size to) w
 
 -- The writer writes binary numbers of more than sixteen digits.
@@ -137,9 +140,9 @@ IsLongCharactersFor from to (receiver.Number w) = ⊥
 IsLongCharactersFor from to (receiver.Text w) = ⊥
 IsLongCharactersFor from to (receiver.Characters w) = AreLongNumeralsFor from to w
 
--- The item is a number of any kind of storage and any number of digits, or edits one in at most forty-eight bytes.
+-- The item is a number of any kind of storage but native and any number of digits, or edits one in at most forty-eight bytes.
 abbrev pub ReceivesLong : Item → Type 0
-ReceivesLong i = IsNumberItem i ⊎ IsLongEditedItem i
+ReceivesLong i = IsBoundNumber i ⊎ IsLongEditedItem i
 
 -- ---- steps
 
@@ -163,7 +166,7 @@ pub record IsLongNumeralsStep (from to : Item) (step : LongStep) : Type 0 where
 abbrev pub IsLongStep : (from to : Item) → LongStep → Type 0
 IsLongStep from to step = IsLongNumberStep from to step ⊎ IsLongNumeralsStep from to step
 
--- The sender is a number of any kind of storage and any number of digits, characters that may be one, or edits one, and the receiver is such a number,
+-- The sender is a number of any kind of storage but native and any number of digits, characters that may be one, or edits one, and the receiver is such a number,
 -- or edits one.
 pub record HaveLongNumbers (from to : Item) : Type 0 where
   pub sends : SendsAnyLong from

@@ -3,7 +3,8 @@ use Rattle.std.specs.Prelude.{◌≡◌, ℕ, ◌≤◌, nat_lt, true, false, if
 use Rattle.cob_cp037.specs.Named.{zero_byte}
 use Rattle.cob_picture.specs.Counts.{scale}
 use Rattle.cob_copybook_tree.specs.declared.node.Item.{Item}
-use Rattle.cob_copybook_tree.specs.Items.{IsNumberItem}
+use Rattle.cob_copybook_tree.specs.Items.{IsNumberItem, storage_kind}
+use Rattle.cob_copybook_tree.specs.Storage.{is_native}
 use Rattle.cob_edit.specs.declared.cell.TextCell.{TextCell}
 use Rattle.cob_edit.specs.declared.cell.TextCell.TheVariants.{Same, Taken}
 use Rattle.cob_codec_lanes.specs.Lanes.{AreTens}
@@ -16,9 +17,11 @@ use Rattle.cob_move_steps.specs.LongDigits.{long_digits}
 use Rattle.cob_move_steps.specs.Numerals.{numeral_count}
 use Rattle.cob_move_steps.specs.declared.long_numerals.LongNumerals.{LongNumerals}
 
--- The number of the item has at most 31 digits, and they are at most forty-eight characters with a zero for each P at the right.
+-- The number of the item, which its picture bounds, has at most 31 digits, and they are at most forty-eight characters with a zero for each P at the
+-- right.
 pub record HasLongNumerals (i : Item) : Type 0 where
   pub number : IsNumberItem i
+  pub bound : is_native (storage_kind i) ≡ false
   pub few : item_digits i ≤ 31
   pub fits : numeral_count i ≤ 48
 

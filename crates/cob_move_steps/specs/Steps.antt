@@ -1,5 +1,5 @@
 -- Single moves of numbers that are made ready.
-use Rattle.std.specs.Prelude.{◌≤◌, ℤ, ◌-ℤ◌, Bool, ◌&&◌, List, ℕ, Option, Some, None, IsSome}
+use Rattle.std.specs.Prelude.{◌≡◌, ◌≤◌, ℤ, ◌-ℤ◌, Bool, false, ◌&&◌, List, ℕ, Option, Some, None, IsSome}
 use Rattle.cob_picture.specs.Counts.{digits, scale, signed}
 use Rattle.cob_codec.specs.Readings.{KeepsZones}
 use Rattle.cob_codec.specs.declared.reading.Reading.{Reading}
@@ -8,6 +8,7 @@ use Rattle.cob_copybook_tree.specs.declared.kinds.StorageKind.TheVariants as kin
 use Rattle.cob_copybook_tree.specs.declared.node.Item.{Item}
 use Rattle.cob_copybook_tree.specs.Items.{IsNumberItem, IsSentBy, storage_kind, stored_form}
 use Rattle.cob_copybook_tree.specs.Lengths.{item_size}
+use Rattle.cob_copybook_tree.specs.Storage.{is_native}
 use Rattle.cob_codec_lanes.specs.Readers.{IsReaderOf}
 use Rattle.cob_codec_lanes.specs.Writers.{IsWriterOf}
 use Rattle.cob_codec_lanes.specs.declared.reader.LaneReader.{LaneReader}
@@ -62,5 +63,6 @@ IsWriterFor to w = IsWriterOf (received_form to) (digits to.picture.positions) (
 pub record IsNumberStep (from to : Item) (step : NumberStep) : Type 0 where
   pub sends : IsNumberItem from
   pub receives : IsNumberItem to
+  pub bound : is_native (storage_kind to) ≡ false
   pub reader : IsReaderFor from to step.reader
   pub writer : IsWriterFor to step.writer

@@ -1,10 +1,11 @@
 -- Single moves of numbers to packed items of more than sixteen digits that are made ready.
-use Rattle.std.specs.Prelude.{◌≡◌, ℕ, ◌-◌, ◌<◌, ◌≤◌, pos, ◌-ℤ◌, List, length, Option}
+use Rattle.std.specs.Prelude.{◌≡◌, ℕ, ◌-◌, ◌<◌, ◌≤◌, pos, ◌-ℤ◌, false, List, length, Option}
 use Rattle.cob_picture.specs.Counts.{scale}
 use Rattle.cob_copybook_tree.specs.declared.kinds.StorageKind.TheVariants as kind
 use Rattle.cob_copybook_tree.specs.declared.node.Item.{Item}
 use Rattle.cob_copybook_tree.specs.Items.{IsNumberItem, storage_kind}
 use Rattle.cob_copybook_tree.specs.Lengths.{item_size}
+use Rattle.cob_copybook_tree.specs.Storage.{is_native}
 use Rattle.cob_codec_lanes.specs.Writers.{IsWideWriterOf}
 use Rattle.cob_move_steps.specs.Ends.{item_digits}
 use Rattle.cob_move_steps.specs.Running.{ReceivedAtEnd}
@@ -22,6 +23,7 @@ pub record IsWideItem (i : Item) : Type 0 where
 pub record IsWideStep (from to : Item) (step : WideStep) : Type 0 where
   pub sends : IsNumberItem from
   pub receives : IsNumberItem to
+  pub bound : is_native (storage_kind to) ≡ false
   pub front : IsItemReader from (item_digits to - 16) (scale to.picture.positions -ℤ scale from.picture.positions -ℤ pos 16) step.front
   pub back : IsItemReader from 16 (scale to.picture.positions -ℤ scale from.picture.positions) step.back
   pub writer : IsWideWriterOf (received_form to) (item_digits to) (item_size to) step.writer

@@ -1,9 +1,10 @@
 //! What reads and writes numbers of items, made ready.
 
-ghost use Rattle.std.specs.Prelude.{◌≡◌, ◌↔◌, ◌≤◌, IfSome, IsSome, IsTrue};
+ghost use Rattle.std.specs.Prelude.{◌≡◌, ◌↔◌, ◌≤◌, false, IfSome, IsSome, IsTrue};
 ghost use Rattle.cob_picture.specs.Counts.{digits};
 ghost use Rattle.cob_copybook_tree.specs.declared.kinds.StorageKind.TheVariants.{Binary};
 ghost use Rattle.cob_copybook_tree.specs.Items.{storage_kind};
+ghost use Rattle.cob_copybook_tree.specs.Storage.{is_native};
 ghost use Rattle.cob_move_steps.specs.Ends.{IsNumberReaderFor, IsNumberWriterFor, IsNumeralItem, IsShortNumber, IsShortSender, IsWordItem};
 
 use crate::number_ends::{NumberReader, NumberWriter};
@@ -15,14 +16,16 @@ use cob_picture::Category;
 
 /// Whether an item is binary.
 fn is_binary(item: &Item) -> bool
-    ensures { IsTrue result ↔ (storage_kind item.now ≡ Binary) }
+    ensures kind { IsTrue result ↔ (storage_kind item.now ≡ Binary) }
+    ensures bound { IsTrue result → is_native (storage_kind item.now) ≡ false }
 {
     matches!(item.storage_kind(), StorageKind::Binary)
 }
 
 /// Whether an item is a binary number of at most sixteen digits.
 fn is_word_item(item: &Item) -> bool
-    ensures { IsTrue result ↔ IsWordItem item.now }
+    ensures word { IsTrue result ↔ IsWordItem item.now }
+    ensures bound { IsTrue result → is_native (storage_kind item.now) ≡ false }
 {
     is_number_item(item) && is_binary(item) && item.picture.digits() <= 16
 }

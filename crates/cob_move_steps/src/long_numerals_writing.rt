@@ -8,18 +8,19 @@ use crate::characters::put;
 use crate::long_numerals::LongNumerals;
 use crate::long_texts::long_text_of;
 use crate::numerals_preparing::numeral_count;
+use crate::storage::is_bound_number;
 use cob_codec_lanes::LongText;
-use cob_copybook_tree::{Item, is_number_item};
+use cob_copybook_tree::Item;
 use cob_cp037::ZERO;
 use cob_edit::TextCell;
 use cob_move_receive::is_of_characters;
 use std::simd::prelude::*;
 
-/// Whether an item is a number, and its digits are at most forty-eight characters.
+/// Whether an item is a number that its picture bounds, and its digits are at most forty-eight characters.
 fn has_long_numerals(item: &Item) -> bool
     ensures { IsTrue result ↔ HasLongNumerals item.now }
 {
-    is_number_item(item) && item.picture.digits() <= 31 && numeral_count(item) <= 48
+    is_bound_number(item) && item.picture.digits() <= 31 && numeral_count(item) <= 48
 }
 
 /// What a character shows: one of so many digits, or a zero behind them.

@@ -1,10 +1,11 @@
 //! Steps of numbers of any number of digits, made ready.
 
-ghost use Rattle.std.specs.Prelude.{◌≡◌, ◌↔◌, ◌-◌, ◌≤◌, ◌≤ℤ◌, pos, ◌-ℤ◌, IfOk, IfSome, IsSome, IsTrue};
+ghost use Rattle.std.specs.Prelude.{◌≡◌, ◌↔◌, ◌-◌, ◌≤◌, ◌≤ℤ◌, pos, ◌-ℤ◌, false, IfOk, IfSome, IsSome, IsTrue};
 ghost use Rattle.cob_picture.specs.Counts.{scale};
 ghost use Rattle.cob_copybook_tree.specs.declared.kinds.StorageKind.TheVariants.{Binary, Packed, Separate, Zoned};
 ghost use Rattle.cob_copybook_tree.specs.Items.{IsNumberItem, storage_kind};
-ghost use Rattle.cob_move_steps.specs.Ends.{item_digits};
+ghost use Rattle.cob_copybook_tree.specs.Storage.{is_native};
+ghost use Rattle.cob_move_steps.specs.Ends.{IsBoundNumber, item_digits};
 ghost use Rattle.cob_move_steps.specs.Long.{HaveLongNumbers, HaveLongStep, IsCharacterNumber, IsLongNumberStep, IsLongNumeralsStep, IsLongReaderFor, IsLongStep, IsLongReceiverFor, IsLongWriterFor, ReceivesLong, SendsAnyLong, SendsLong};
 ghost use Rattle.cob_move_steps.specs.LongDigits.{last_count};
 ghost use Rattle.cob_move_steps.specs.LongNumerals.{HaveLongNumerals};
@@ -17,12 +18,12 @@ use crate::long_text_reading::{last_count, long_text_reader};
 use crate::long_texts::{front_count, long_text_writer};
 use crate::number_ends::NumberWriter;
 use crate::preparing::writer_for;
-use crate::storage::LaneStorage;
+use crate::storage::{LaneStorage, is_bound_number};
 use cob_codec_lanes::{
     BinaryWriter, DigitReader, DigitWriter, PairReader, Wanted, WideKeeper, WideWordReader,
     WideWordWriter, WideWriter,
 };
-use cob_copybook_tree::{Item, StorageKind, is_number_item};
+use cob_copybook_tree::{Item, StorageKind};
 use cob_picture::Category;
 use std::alloc::{AllocError, Global};
 
@@ -95,16 +96,19 @@ fn numeral_reader(item: &Item) -> LongReader
     }
 }
 
-/// What reads the numbers of a number's item.
-fn stored_reader(item: &Item) -> LongReader
+/// What reads the numbers of a number's item that is not native.
+fn stored_reader(item: &Item) -> Option<LongReader>
     requires { IsNumberItem item.now }
-    ensures { IsLongReaderFor item.now result }
+    ensures reader { IfSome result (IsLongReaderFor item.now) }
+    ensures bound { IfSome result (λ reader. is_native (storage_kind item.now) ≡ false) }
+    ensures must { is_native (storage_kind item.now) ≡ false → IsSome result }
 {
     match item.storage_kind() {
-        StorageKind::Zoned => zoned_reader(item),
-        StorageKind::Separate => separate_reader(item),
-        StorageKind::Packed => packed_reader(item),
-        StorageKind::Binary => word_reader(item),
+        StorageKind::Zoned => Some(zoned_reader(item)),
+        StorageKind::Separate => Some(separate_reader(item)),
+        StorageKind::Packed => Some(packed_reader(item)),
+        StorageKind::Binary => Some(word_reader(item)),
+        StorageKind::Native => None,
     }
 }
 
@@ -114,8 +118,8 @@ fn long_reader(item: &Item) -> Option<LongReader>
     ensures sends { IfSome result (λ reader. SendsLong item.now) }
     ensures must { SendsLong item.now → IsSome result }
 {
-    if is_number_item(item) {
-        Some(stored_reader(item))
+    if is_bound_number(item) {
+        stored_reader(item)
     } else if is_character_number(item) {
         Some(numeral_reader(item))
     } else {
@@ -207,16 +211,30 @@ fn word_writer(item: &Item) -> LongWriter
     }
 }
 
-/// What writes the numbers of a number's item.
-fn long_writer(item: &Item) -> LongWriter
+/// What writes the numbers of a number's item that is not native.
+fn long_writer(item: &Item) -> Option<LongWriter>
     requires { IsNumberItem item.now }
-    ensures { IsLongWriterFor item.now result }
+    ensures writer { IfSome result (IsLongWriterFor item.now) }
+    ensures must { is_native (storage_kind item.now) ≡ false → IsSome result }
 {
     match item.storage_kind() {
-        StorageKind::Zoned => zoned_writer(item),
-        StorageKind::Separate => separate_writer(item),
-        StorageKind::Packed => packed_writer(item),
-        StorageKind::Binary => word_writer(item),
+        StorageKind::Zoned => Some(zoned_writer(item)),
+        StorageKind::Separate => Some(separate_writer(item)),
+        StorageKind::Packed => Some(packed_writer(item)),
+        StorageKind::Binary => Some(word_writer(item)),
+        StorageKind::Native => None,
+    }
+}
+
+/// What writes the number that a receiver gets, if it is a number that its picture bounds.
+fn bound_writer(item: &Item) -> Option<LongReceiver>
+    requires { IsBoundNumber item.now }
+    ensures writer { IfSome result (IsLongReceiverFor item.now) }
+    ensures must { IsSome result }
+{
+    match long_writer(item) {
+        Some(writer) => Some(LongReceiver::Number(writer)),
+        None => None,
     }
 }
 
@@ -253,8 +271,8 @@ fn long_receiver(alloc: Global, receiver: &Item) -> Result<Option<LongReceiver>,
     ensures writer { IfOk result (λ writer. IfSome writer (IsLongReceiverFor receiver.now)) }
     ensures must { ReceivesLong receiver.now → IfOk result IsSome }
 {
-    if is_number_item(receiver) {
-        return Ok(Some(LongReceiver::Number(long_writer(receiver))));
+    if is_bound_number(receiver) {
+        return Ok(bound_writer(receiver));
     }
     match long_text_writer(alloc, receiver)? {
         Some(writer) => Ok(Some(LongReceiver::Text(writer))),
@@ -308,8 +326,8 @@ impl LongStep {
         })
     }
 
-    /// The step of the move of one item to another. There is one where the sender is a number, holds at most 31 characters, or is edited, in at
-    /// most 48 bytes, and the receiver is a number, or edits one in at most 48 bytes; and where the sender is a number whose digits are at most 48
+    /// The step of the move of one item to another. There is one where the sender is a number that is not native, holds at most 31 characters, or is edited, in at
+    /// most 48 bytes, and the receiver is such a number, or edits one in at most 48 bytes; and where the sender is such a number whose digits are at most 48
     /// characters, with a zero for each P at the right, and the receiver takes characters without insertions.
     ///
     /// # Errors

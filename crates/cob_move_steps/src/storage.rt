@@ -1,12 +1,21 @@
 //! Items whose numbers lanes hold.
 
-ghost use Rattle.std.specs.Prelude.{◌≡◌, ◌≤◌, ◌↔◌, IsTrue, IsSome, IfSome};
+ghost use Rattle.std.specs.Prelude.{◌≡◌, ◌≤◌, ◌↔◌, false, IsTrue, IsSome, IfSome};
 ghost use Rattle.cob_picture.specs.Counts.{digits};
 ghost use Rattle.cob_copybook_tree.specs.Items.{storage_kind};
 ghost use Rattle.cob_copybook_tree.specs.Lengths.{item_size};
+ghost use Rattle.cob_copybook_tree.specs.Storage.{is_native};
+ghost use Rattle.cob_move_steps.specs.Ends.{IsBoundNumber};
 ghost use Rattle.cob_move_steps.specs.Steps.{kind_by_lanes, lanes_of, IsLaneItem, IsWindowItem};
 
 use cob_copybook_tree::{Item, StorageKind, is_number_item};
+
+/// Whether an item is a number that its picture's digits bound: it is not native.
+pub(crate) fn is_bound_number(item: &Item) -> bool
+    ensures { IsTrue result ↔ IsBoundNumber item.now }
+{
+    is_number_item(item) && !item.storage_kind().is_native()
+}
 
 /// A kind of storage that lanes read and write.
 #[derive(Clone, Copy)]
@@ -28,6 +37,7 @@ pub(crate) fn fits_lanes(item: &Item) -> bool
 fn lanes_of(item: &Item) -> Option<LaneStorage>
     ensures lanes { result ≡ lanes_of (storage_kind item.now) }
     ensures kind { IfSome result (λ storage. storage_kind item.now ≡ kind_by_lanes storage) }
+    ensures bound { IfSome result (λ storage. is_native (storage_kind item.now) ≡ false) }
 {
     match item.storage_kind() {
         StorageKind::Zoned => Some(LaneStorage::Zoned),
@@ -41,6 +51,7 @@ fn lanes_of(item: &Item) -> Option<LaneStorage>
 pub(crate) fn window_storage(item: &Item) -> Option<LaneStorage>
     ensures item { IfSome result (λ storage. IsWindowItem item.now) }
     ensures kind { IfSome result (λ storage. storage_kind item.now ≡ kind_by_lanes storage) }
+    ensures bound { IfSome result (λ storage. is_native (storage_kind item.now) ≡ false) }
     ensures must { IsWindowItem item.now → IsSome result }
 {
     if !is_number_item(item) {
@@ -56,6 +67,7 @@ pub(crate) fn window_storage(item: &Item) -> Option<LaneStorage>
 pub(crate) fn lane_storage(item: &Item) -> Option<LaneStorage>
     ensures item { IfSome result (λ storage. IsLaneItem item.now) }
     ensures kind { IfSome result (λ storage. storage_kind item.now ≡ kind_by_lanes storage) }
+    ensures bound { IfSome result (λ storage. is_native (storage_kind item.now) ≡ false) }
     ensures must { IsLaneItem item.now → IsSome result }
 {
     if !fits_lanes(item) {

@@ -1,11 +1,12 @@
 //! Steps to packed items of more than sixteen digits, made ready.
 
-ghost use Rattle.std.specs.Prelude.{◌≡◌, ◌-◌, ◌<◌, ◌≤◌, ◌↔◌, pos, ◌-ℤ◌, IfSome, IsSome, IsTrue};
+ghost use Rattle.std.specs.Prelude.{◌≡◌, ◌-◌, ◌<◌, ◌≤◌, ◌↔◌, pos, ◌-ℤ◌, false, IfSome, IsSome, IsTrue};
 ghost use Rattle.cob_picture.specs.Counts.{scale};
 ghost use Rattle.cob_copybook_tree.specs.declared.kinds.StorageKind.TheVariants.{Packed};
 ghost use Rattle.cob_copybook_tree.specs.Items.{storage_kind};
 ghost use Rattle.cob_codec_lanes.specs.Writers.{IsWideWriterOf};
 ghost use Rattle.cob_copybook_tree.specs.Lengths.{item_size};
+ghost use Rattle.cob_copybook_tree.specs.Storage.{is_native};
 ghost use Rattle.cob_move_steps.specs.Ends.{item_digits};
 ghost use Rattle.cob_move_steps.specs.Steps.{IsWindowItem, received_form};
 ghost use Rattle.cob_move_steps.specs.Wide.{IsWideItem, IsWideStep};
@@ -18,14 +19,16 @@ use cob_copybook_tree::{Item, StorageKind, is_number_item};
 
 /// Whether an item is packed.
 fn is_packed(item: &Item) -> bool
-    ensures { IsTrue result ↔ (storage_kind item.now ≡ Packed) }
+    ensures kind { IsTrue result ↔ (storage_kind item.now ≡ Packed) }
+    ensures bound { IsTrue result → is_native (storage_kind item.now) ≡ false }
 {
     matches!(item.storage_kind(), StorageKind::Packed)
 }
 
 /// Whether an item is a packed number of more than sixteen digits.
 fn is_wide_item(item: &Item) -> bool
-    ensures { IsTrue result ↔ IsWideItem item.now }
+    ensures wide { IsTrue result ↔ IsWideItem item.now }
+    ensures bound { IsTrue result → is_native (storage_kind item.now) ≡ false }
 {
     is_number_item(item) && is_packed(item) && item.picture.digits() > 16 && item.size() <= 16
 }

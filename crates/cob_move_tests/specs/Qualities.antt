@@ -4,7 +4,7 @@ use Rattle.cob_picture.specs.Counts.{signed}
 use Rattle.cob_picture.specs.declared.category.Category.{Category}
 use Rattle.cob_picture.specs.declared.category.Category.TheVariants.{Alphabetic as OfLetters, Alphanumeric, AlphanumericEdited, Numeric as OfNumbers, NumericEdited}
 use Rattle.cob_copybook_entry.specs.declared.kinds.Usage.{Usage}
-use Rattle.cob_copybook_entry.specs.declared.kinds.Usage.TheVariants.{Binary, Display, Packed}
+use Rattle.cob_copybook_entry.specs.declared.kinds.Usage.TheVariants.{Binary, Display, Native, Packed}
 use Rattle.cob_copybook_tree.specs.declared.node.Item.{Item}
 use Rattle.cob_copybook_tree.specs.declared.node.Kind.{Kind}
 use Rattle.cob_copybook_tree.specs.declared.node.Kind.TheVariants.{Group, Item as ItemKind}
@@ -20,11 +20,12 @@ use Rattle.cob_move_data.specs.declared.operands.Operand.{Operand}
 use Rattle.cob_move_receive.specs.Table.{Entry as EntryOf}
 use Rattle.cob_move_names.specs.Groups.{entries_below}
 
--- a binary item has no characters
+-- a binary or a native item has no characters
 abbrev pub is_binary : Usage → Bool
 is_binary Display = false
 is_binary Packed = false
 is_binary Binary = true
+is_binary Native = true
 
 -- characters of any kind
 abbrev pub is_alphanumeric : Category → Bool
@@ -34,7 +35,7 @@ is_alphanumeric AlphanumericEdited = false
 is_alphanumeric OfNumbers = false
 is_alphanumeric NumericEdited = false
 
--- NUMERIC is asked of numbers that aren't binary, and of characters that are neither letters alone nor edited
+-- NUMERIC is asked of numbers that are neither binary nor native, and of characters that are neither letters alone nor edited
 abbrev pub may_be_numeric : Item → Bool
 may_be_numeric i = (is_number i && not (is_binary i.usage)) || is_alphanumeric i.picture.category
 

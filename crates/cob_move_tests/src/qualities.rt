@@ -26,11 +26,11 @@ use cob_move_conditions::Quality;
 use cob_move_names::entries_below;
 use cob_picture::Category;
 
-/// Whether an item is binary.
+/// Whether an item is binary or native.
 fn is_binary(usage: Usage) -> bool
     ensures { result ≡ is_binary usage }
 {
-    matches!(usage, Usage::Binary)
+    matches!(usage, Usage::Binary | Usage::Native)
 }
 
 /// Whether an item has characters of any kind.

@@ -1,5 +1,6 @@
-use Rattle.std.proofs.Common.{refl, arith}
+use Rattle.std.proofs.Common.{ap, refl, arith}
 use Rattle.cob_copybook_tree.specs.declared.kinds.StorageKind.TheVariants.{Separate}
+use Rattle.cob_copybook_tree.specs.Storage.{is_native}
 use Rattle.cob_move_steps.proofs.LongKinds.{lane_item, separate_written}
 use Rattle.cob_move_steps.proofs.long_preparing.separate_writer.Goals as goal
 
@@ -15,5 +16,6 @@ returns-else-shape-lt16 c =
     let s = c.shape-shape.ensures in
     record {
       number = c.requires.number;
+      bound = ap is_native c.requires.kind;
       writes = separate_written c.args.item.now shape.digits shape.leading c.separate.result c.requires.kind c.requires.number s.size s.digits s.leading c.separate.ensures;
     }

@@ -1,5 +1,6 @@
-use Rattle.std.proofs.Common.{refl}
+use Rattle.std.proofs.Common.{ap, refl}
 use Rattle.cob_copybook_tree.specs.declared.kinds.StorageKind.TheVariants.{Zoned}
+use Rattle.cob_copybook_tree.specs.Storage.{is_native}
 use Rattle.cob_move_steps.proofs.LongKinds.{lane_item, zoned_written}
 use Rattle.cob_move_steps.proofs.long_preparing.zoned_writer.Goals as goal
 
@@ -15,5 +16,6 @@ returns-else-shape-le16 c =
     let s = c.shape-shape.ensures in
     record {
       number = c.requires.number;
+      bound = ap is_native c.requires.kind;
       writes = zoned_written c.args.item.now shape.digits shape.signed shape.leading c.zoned.result c.requires.kind s.size s.digits s.signed s.leading c.zoned.ensures;
     }
