@@ -2,8 +2,6 @@
 use Rattle.std.specs.Prelude.{◌≡◌, ◌+◌, ℕ, List, [], ◌∷◌, ◌++◌, map}
 use Rattle.cob_copybook_conditions.specs.Names.{plain_span}
 use Rattle.cob_copybook_tree.specs.declared.node.Node.TheViews.{out-Node}
-use Rattle.cob_copybook_tree.specs.Nodes.{forest}
-use Rattle.cob_layout_places.specs.Parts.{characters_of}
 use Rattle.cob_copybook_names.specs.declared.bearer.Bearer.{Bearer as Listed}
 use Rattle.cob_copybook_names.specs.Listed.{bearer_by}
 use Rattle.cob_copybook_names.specs.Naming.{Bearer}
@@ -19,7 +17,7 @@ listed_record_entry e = record {
   number = (out-Node e.entry.now).number;
   tables = e.tables.items;
   kind = (out-Node e.entry.now).kind;
-  characters = characters_of (out-Node e.entry.now).kind (forest (out-Node e.entry.now).children.items);
+  characters = e.characters;
 }
 
 -- A listed entry, with its names.

@@ -1,9 +1,6 @@
 //! An entry of one of the two records, as it is found by its names.
 
 ghost use Rattle.std.specs.Prelude.{◌≤◌};
-ghost use Rattle.cob_copybook_tree.specs.Lengths.{greatest_number, whole_length};
-ghost use Rattle.cob_copybook_tree.specs.Nodes.{node, tree_of};
-ghost use Rattle.cob_layout_places.specs.Lengths.{MayOccur};
 ghost use Rattle.cob_limits.specs.Limits.{longest_record};
 
 use arrayvec::ArrayVec;
@@ -21,8 +18,8 @@ pub(crate) struct RecordEntry<'a> {
     pub entry: &'a Node,
     /// The tables that hold it or that it is.
     pub tables: CandidateTables,
+    /// How many characters an element of it has, of which a part may be named.
+    pub characters: u32,
 
-    pub ghost possible: { MayOccur (tree_of entry.now) },
-    pub ghost short: { whole_length greatest_number (node entry.now).top (node entry.now).beneath
-        ≤ longest_record },
+    pub ghost short: { characters ≤ longest_record },
 }

@@ -36,6 +36,7 @@ fn same_entry<'a>(entry: &RecordEntry<'a>) -> Result<RecordEntry<'a>, AllocError
         side: entry.side,
         entry: entry.entry,
         tables,
+        characters: entry.characters,
     })
 }
 
