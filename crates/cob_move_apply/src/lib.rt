@@ -52,7 +52,8 @@
 //! `Moves::with_reading`, `Moves::statements` and `Moves::reading`; the clauses of `Moves::apply_kept`, `Scratch::input_length`, `Scratch::output_length`,
 //! `Scratch::forget_output` and `Scratch::forget_input`: the same by counts that are kept from the length of the input on to that of the output (`keeps`, by
 //! `AreKeptOf`); the clauses of `MarkedMoves::new`, `with_reading`, `statements`, `reading`, `single_moves`, `steps`, `marks`, `apply_all`,
-//! `apply_between` and `spare`, and of `PlacedEntry::new`, `side`, `entry` and `place`; which stop the fault of a place is (`stop_of`); the law `one_ending`.
+//! `apply_between` and `spare`, and of `PlacedEntry::new`, `side`, `entry`, `kind` and `place`; which stop the fault of a place is (`stop_of`); where a part stands
+//! (`part_place`); the laws `one_ending`, `operands_lie_in_storage`, `whole_stands`.
 #![tactic(auto)]
 
 mod application;
