@@ -1,13 +1,13 @@
 -- What a reference names, where one entry bears its name.
-use Rattle.std.proofs.Common.{◌≡◌, ℕ, true, false, List, [], ◌∷◌, refl, sym, ap, subst, ◌∙◌, Option, Some, None, is_some}
-use Rattle.std.specs.Prelude.{option_map}
+use Rattle.std.proofs.Common.{◌≡◌, ℕ, ◌+◌, true, false, List, [], ◌∷◌, refl, sym, ap, subst, ◌∙◌, Option, Some, None, is_some}
+use Rattle.std.specs.Prelude.{option_map, ◌-◌}
 use Rattle.cob_copybook_names.specs.Naming.{named}
 use Rattle.cob_layout_places.specs.declared.reference.ItemPart.{ItemPart}
 use Rattle.cob_move_data.specs.declared.operands.Side.{Side}
 use Rattle.cob_move_data.specs.declared.operands.Operand.{Operand}
 use Rattle.cob_move_statements.specs.Written.{WrittenReference}
 use Rattle.cob_move_names.specs.Candidates.{Candidate, RecordEntry}
-use Rattle.cob_move_names.specs.References.{AreSubscriptsOf, HasPart, NamesOperand, element_operand, operand, subscript_numbers}
+use Rattle.cob_move_names.specs.References.{AreSubscriptsOf, HasPart, IsLengthOf, NamesOperand, element_operand, length_meant, operand, subscript_numbers}
 
 -- what a reference names of this entry
 pub record IsNamedOf (r : WrittenReference) (side : Side) (o : Operand) (c : Candidate) : Type 0 where
@@ -37,3 +37,16 @@ is_whole f (Some x) e = absurd (cc)
 pub isnt_whole : {A B : Type 0} (f : A → B) (p : Option A) → is_some p ≡ true → option_map f p ≡ None → ⊥
 isnt_whole f None e h = absurd (cc)
 isnt_whole f (Some x) e h = absurd (cc)
+
+-- a part that starts and lasts so
+abbrev some_part : ℕ → ℕ → Option ItemPart
+some_part s n = Some (record { start = s; length = n })
+
+-- the same start and the same length make the same part
+pub same_part : (characters s t n : ℕ) (l : Option (List ℕ)) → s ≡ t → n ≡ length_meant characters s l
+    → ◌≡◌ {A = Option ItemPart} (Some (record { start = s; length = n })) (Some (record { start = t; length = length_meant characters t l }))
+same_part characters s t n l a b = ap (some_part s) b ∙ ap (λ (m : ℕ). some_part m (length_meant characters m l)) a
+
+-- how long a part is holds of the same start
+pub same_length : (characters s t : ℕ) (l : Option (List ℕ)) → s ≡ t → IsLengthOf (characters + 1 - s) l → IsLengthOf (characters + 1 - t) l
+same_length characters s t l e = subst (λ (m : ℕ). IsLengthOf (characters + 1 - m) l) e

@@ -26,7 +26,7 @@ use Rattle.cob_move_names.specs.Candidates.{Candidate, RecordEntry, all_entries,
 use Rattle.cob_move_names.specs.Laws.{ItemsAreOperands}
 use Rattle.cob_move_names.specs.Listed.{AreInOrder, ListsMore, ListsValues, candidate_of, valued_of}
 use Rattle.cob_move_names.specs.declared.valued.ValuedEntry.{ValuedEntry as ListedValued}
-use Rattle.cob_move_names.specs.declared.candidate.RecordEntry.{RecordEntry as ListedEntry}
+use Rattle.cob_move_names.specs.declared.record_entry.RecordEntry.{RecordEntry as ListedEntry}
 use Rattle.cob_move_names.specs.References.{AreSubscriptsOf, entry_operand, subscript_numbers}
 use Rattle.cob_move_names.specs.Valued.{AreOfEntries, PlainConditionNames, ValuedEntry, all_values, entry_with, named_value, named_values, same_side, valued, valued_by}
 use Rattle.cob_move_names.specs.Values.{ValuedOperand}

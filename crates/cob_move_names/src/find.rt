@@ -14,15 +14,16 @@ ghost use Rattle.cob_move_names.specs.References.{AreSubscriptsOf, BreaksReceive
 ghost use Rattle.cob_move_names.specs.Valued.{all_values, named_values, plain_names};
 ghost use Rattle.cob_move_names.specs.Values.{BreaksValues, NamesValues, conditions_of};
 
-use crate::candidate::{RecordEntry, list_tree};
+use crate::candidate::list_tree;
 use crate::directory::Names;
+use crate::record_entry::RecordEntry;
 use crate::subscripts::{read_subscripts, subscript_of};
 use crate::valued::{ConditionNames, ValuedEntry, list_values};
 use arrayvec::ArrayVec;
 use cob_copybook_conditions::{ConditionName, Span};
 use cob_copybook_names::Bearer;
 use cob_layout::{Layout, Ref, records_are_sound};
-use cob_layout_places::{ItemPart, characters_of, entries_are_measured};
+use cob_layout_places::{ItemPart, entries_are_measured};
 use cob_limits::MAX_SUBSCRIPTS;
 use cob_move_data::{Operand, Side, kind_of_part};
 use cob_move_statements::{MoveRule, Reference, ReferencePart};
@@ -69,9 +70,9 @@ fn length_of(written: Option<&[u8]>, left: u32) -> Option<u32>
     requires some { 0 < left }
     ensures short { IfSome result (λ n. (0 < n) × (n ≤ left)) }
     ensures found { (start characters : ℕ) → left ≡ characters + 1 - start → IfSome result
-        (λ n. n ≡ length_meant characters start (option_map (λ t. t.now) written)) }
-    ensures yes { IfSome result (λ _. IsLengthOf left (option_map (λ t. t.now) written)) }
-    ensures no { IfNone result (IsLengthOf left (option_map (λ t. t.now) written) → ⊥) }
+        (λ n. n ≡ length_meant characters start (option_map (λ t. t.now) written.entry)) }
+    ensures yes { IfSome result (λ _. IsLengthOf left (option_map (λ t. t.now) written.entry)) }
+    ensures no { IfNone result (IsLengthOf left (option_map (λ t. t.now) written.entry) → ⊥) }
 {
     match written {
         None => Some(left),
@@ -93,14 +94,6 @@ fn part_within(characters: u32, written: &ReferencePart<'_>) -> Option<ItemPart>
     Some(ItemPart { start, length })
 }
 
-/// How many characters an element of an entry has.
-fn characters_of_entry(named: &RecordEntry<'_>) -> u32
-    ensures value { result ≡ (listed_record_entry named.now).characters }
-    ensures short { result ≤ longest_record }
-{
-    characters_of(named.entry)
-}
-
 /// The part that is meant of an entry, if one is, and the entry has it.
 fn part_of(named: &RecordEntry<'_>, written: &Option<ReferencePart<'_>>) -> Option<Option<ItemPart>>
     ensures found { IfSome result (λ p. p ≡ part_meant (listed_record_entry named.now).characters
@@ -114,7 +107,7 @@ fn part_of(named: &RecordEntry<'_>, written: &Option<ReferencePart<'_>>) -> Opti
     match written {
         None => Some(None),
         Some(part) => {
-            let part = part_within(characters_of_entry(named), part)?;
+            let part = part_within(named.characters, part)?;
             Some(Some(part))
         }
     }
