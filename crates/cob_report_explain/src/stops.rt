@@ -4,8 +4,10 @@ use crate::moves::bytes_at;
 use crate::single::{Asked, MoveStop, SingleNumber};
 use crate::walk::{ConditionStop, TestStop};
 use cob_convert_record::{Conversion, Side, Stop, StopCause};
+use cob_copybook_tree::{Item, Kind};
 use cob_layout::Layout;
-use cob_move_data::{Sent, single_at};
+use cob_limits::MAX_RECORD;
+use cob_move_data::{Sent, part_kind, single_at};
 use cob_report_faults::{
     Asker, AskingLoop, AskingMove, CountTable, Occurrence, Qualifying, SentText, StopCase,
     StopText, counted_at,
@@ -129,12 +131,37 @@ pub fn count_words(
     }
 }
 
-/// What is wrong with the value of a sender.
-fn value_text<'a>(scene: &Scene<'a>, stop: Stop, asked: AskingMove<'a>) -> Option<StopText<'a>> {
+/// What the part describes that a sender is, if it is one.
+fn sent_part(sender: &SentText<'_>) -> Option<Kind> {
+    let SentText::Entry(subject) = sender else {
+        return None;
+    };
+    let part = subject.part?;
+    if part.length == 0 || part.length > MAX_RECORD {
+        return None;
+    }
+    part_kind(Some(part))
+}
+
+/// The item that an occurrence is, or the part of it that is meant.
+fn item_meant<'a>(subject: &Occurrence<'a>, part: Option<&'a Kind>) -> Option<&'a Item> {
+    match part {
+        Some(Kind::Item(item)) => Some(item),
+        _ => subject.item(),
+    }
+}
+
+/// What is wrong with the value of a sender, which is a part of this kind or none.
+fn value_text<'a>(
+    scene: &Scene<'a>,
+    stop: Stop,
+    asked: AskingMove<'a>,
+    part: Option<&'a Kind>,
+) -> Option<StopText<'a>> {
     let SentText::Entry(subject) = asked.sender else {
         return None;
     };
-    let item = subject.item()?;
+    let item = item_meant(&subject, part)?;
     let size = usize::from(item.size());
     let bytes = match subject.side {
         Side::In => bytes_at(scene.input, stop.offset as usize, size),
@@ -178,7 +205,10 @@ pub fn move_words(alloc: Global, scene: &Scene<'_>, stop: &MoveStop) -> Result<S
         return Ok(String::new(alloc));
     };
     match stop.stop.cause {
-        StopCause::NoValue => written(alloc, value_text(scene, stop.stop, asked)),
+        StopCause::NoValue => {
+            let part = sent_part(&asked.sender);
+            written(alloc, value_text(scene, stop.stop, asked, part.as_ref()))
+        }
         StopCause::Subscript => written(alloc, subscript_text(stop, asked)),
         StopCause::Count => {
             let Stop { side, offset, .. } = stop.stop;

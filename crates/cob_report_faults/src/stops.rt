@@ -10,7 +10,7 @@ use cob_codec::{NumberFlaw, Reading};
 use cob_copybook_tree::{Item, is_number_item, read_sent};
 use cob_move_data::Side;
 use cob_picture::Category;
-use cob_report_words::ItemText;
+use cob_report_words::{ItemText, write_part};
 use std::fmt;
 
 /// What is wrong where moves stop.
@@ -236,7 +236,9 @@ impl StopText<'_> {
                 ..
             } => {
                 let what = ItemText { item };
-                write!(f, "{name}, {what}, at offset {}: ", self.offset)?;
+                write!(f, "{name}")?;
+                write_part(f, self.subject.part)?;
+                write!(f, ", {what}, at offset {}: ", self.offset)?;
                 write_value_flaw(f, item, bytes, reading)
             }
             StopCase::Count {
