@@ -104,7 +104,7 @@ fn name_hint<'a>(before: &'a [Token], word: &'a Token) -> Option<Phrase<'a>> {
 fn lack_hint<'a>(before: &'a [Token], expected: &str, word: &'a Token) -> Option<Phrase<'a>> {
     if word.text.contains(&b':') {
         return Some(Phrase::plain(
-            "parts of an item are left out: redefine the item in the copybook by smaller ones",
+            "a part is (start:length), or (start:) to the item's end, of whole numbers or counters",
         ));
     }
     if expected == "TO" {
