@@ -1,6 +1,7 @@
 -- Single moves that carry an occurrence of an item away and bring it back.
-use Rattle.std.proofs.Common.{◌≡◌, Bool, true, false, List, [], ◌∷◌, None, refl, sym, ap, subst, ◌∙◌, inl, inr}
+use Rattle.std.proofs.Common.{◌≡◌, Bool, true, false, List, [], ◌∷◌, Option, None, Some, refl, sym, ap, subst, ◌∙◌, inl, inr}
 use Rattle.std.specs.Bool.{Decides}
+use Rattle.std.specs.Prelude.{IfNone, IfSome}
 use Rattle.cob_codec.specs.declared.reading.Reading.{Reading}
 use Rattle.cob_copybook_entry.specs.Described.{PlainValue}
 use Rattle.cob_copybook_tree.specs.declared.node.Item.{Item}
@@ -65,13 +66,20 @@ pub part_receives : (l : BothLayouts) (s : code_single.SingleMove) (from x : Occ
 part_receives l s from x true never is goes = let no : true ≡ false = never in cc
 part_receives l s from x false never is goes = let no : false ≡ true = is.1 goes.gets_whole in cc
 
-pub part_sent : (l : BothLayouts) (s : code_single.SingleMove) (e : Element) (from x : Occurrence) (b : Bool) → s.sent ≡ sent.Entry In e → b ≡ false → Decides b (e.part ≡ None) → Goes (single_of l (plain_single s)) from x → ⊥
-part_sent l s e from x true is never whole goes = let no : true ≡ false = never in cc
-part_sent l s e from x false is never whole goes =
+-- of what is sent all of an occurrence of the input record comes home, if all is meant
+pub whole_comes : (l : BothLayouts) (s : code_single.SingleMove) (e : Element) (x : Occurrence) (r : Option Element) → s.sent ≡ sent.Entry In e → plain_element s.receiver ≡ x → s.receiver.part ≡ None
+    → IfSome r (λ f. (f ≡ e) × (e.part ≡ None)) → IfSome r (λ f. Goes (single_of l (plain_single s)) (plain_element f) x)
+whole_comes l s e x None is at gets h = tt
+whole_comes l s e x (Some f) is at gets (same, whole) =
+    subst (λ (g : Element). Goes (single_of l (plain_single s)) (plain_element g) x) (sym same) (comes_from l s e x is at whole gets)
+
+pub part_sent : (l : BothLayouts) (s : code_single.SingleMove) (e : Element) (x : Occurrence) (r : Option Element) → s.sent ≡ sent.Entry In e → IfNone r (e.part ≡ None → ⊥)
+    → IfNone r ((from : Occurrence) → Goes (single_of l (plain_single s)) from x → ⊥)
+part_sent l s e x None is never = λ from goes.
     let one : operand_at l.input.now (plain_element e) e.part ≡ goes.operand =
     operand_is l.reading goes.reading (operand_at l.input.now (plain_element e) e.part) goes.operand (sym (ap (sends_by l) is) ∙ goes.sends) in
-    let no : false ≡ true = whole.1 (ap (λ (o : Operand). o.entry.part) one ∙ goes.sends_whole) in
-    cc
+    never (ap (λ (o : Operand). o.entry.part) one ∙ goes.sends_whole)
+part_sent l s e x (Some f) is never = tt
 
 not_out : (l : BothLayouts) (e : Element) (x : Reading) (o : Operand) → sends_by l (sent.Entry Out e) ≡ Entry In x o → ⊥
 not_out l e x o h = cc

@@ -1,6 +1,6 @@
 //! Whether an occurrence of an item is moved away to an item that loses nothing of it, and moved back.
 
-ghost use Rattle.std.specs.Prelude.{◌≡◌, IfNone, IfSome};
+ghost use Rattle.std.specs.Prelude.{◌≡◌, IfNone, IfSome, None};
 ghost use Rattle.std.specs.Bool.{Decides};
 ghost use Rattle.cob_layout_places.specs.Cover.{Occurrence as Place};
 ghost use Rattle.cob_move_data.specs.Moves.{IsOperand};
@@ -48,6 +48,17 @@ struct BroughtHome<'a> {
     to: ItemElement<'a>,
 }
 
+/// An element, if all of it is meant.
+fn whole<'a>(element: Element<'a>) -> Option<Element<'a>>
+    ensures some { IfSome result (λ e. (e ≡ element.entry) × (element.entry.part ≡ None)) }
+    ensures none { IfNone result (element.entry.part ≡ None → ⊥) }
+{
+    match element.part {
+        None => Some(element),
+        Some(_) => None,
+    }
+}
+
 /// Where a single move to this occurrence comes from; None where it goes to another one or to a part, or comes from no entry of the input record, or from a
 /// part of one.
 fn origin<'a>(
@@ -70,8 +81,7 @@ fn origin<'a>(
     }
     match single.sent {
         Sent::Entry { side, entry } => match side {
-            Side::In if is_whole(&entry) => Some(entry),
-            Side::In => None,
+            Side::In => whole(entry),
             Side::Out => None,
         },
         Sent::Constant(_) => None,
