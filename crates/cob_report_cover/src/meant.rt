@@ -15,13 +15,20 @@ use cob_limits::MAX_RECORD;
 use cob_move_apply::part_place;
 use cob_move_data::Element;
 
-/// Whether an element of so many bytes has a part, which is no longer than a record may be.
+/// Whether an element of so many bytes has a part.
 fn is_part_of(part: ItemPart, bytes: u32) -> bool
+    ensures { Decides result (IsPartOf bytes part) }
+{
+    0 < part.start
+        && 0 < part.length
+        && u64::from(part.start) + u64::from(part.length) <= u64::from(bytes) + 1
+}
+
+/// Whether an element of so many bytes has a part, which is no longer than a record may be.
+fn is_short_part_of(part: ItemPart, bytes: u32) -> bool
     ensures { Decides result (IsPartOf bytes part × (part.length ≤ longest_record)) }
 {
-    let end = u64::from(part.start) + u64::from(part.length);
-    let is_first = part.start > 0 && part.length > 0;
-    is_first && end <= u64::from(bytes) + 1 && part.length <= MAX_RECORD
+    is_part_of(part, bytes) && part.length <= MAX_RECORD
 }
 
 /// Whether an element of so many bytes has the part that is meant.
@@ -30,7 +37,7 @@ pub(crate) fn has_part(part: Option<ItemPart>, bytes: u32) -> bool
 {
     match part {
         None => true,
-        Some(part) => is_part_of(part, bytes),
+        Some(part) => is_short_part_of(part, bytes),
     }
 }
 
