@@ -65,10 +65,7 @@ fn sent_by<'a>(layouts: &BothLayouts<'a>, given: Given<'a>) -> Option<JudgedSent
 }
 
 /// What a single move sends, if no part receives it.
-fn sent_to_whole<'a>(
-    layouts: &BothLayouts<'a>,
-    single: &SingleMove<'a>,
-) -> Option<JudgedSent<'a>>
+fn sent_to_whole<'a>(layouts: &BothLayouts<'a>, single: &SingleMove<'a>) -> Option<JudgedSent<'a>>
     ensures { option_map sent_element result
         ≡ if_whole single.now.receiver.part
         (sent_element_by (layout_records layouts.now) (plain_sent single.now.sent)) }

@@ -85,12 +85,7 @@ fn losses_to(from: &SenderKind<'_>, bytes: u32, output: &Layout, to: Element<'_>
 }
 
 /// What the move of an entry of this side may lose to one of the output record, or of parts of them; nothing where there is no such entry.
-fn entry_losses(
-    layouts: &BothLayouts<'_>,
-    side: Side,
-    from: Element<'_>,
-    to: Element<'_>,
-) -> Losses
+fn entry_losses(layouts: &BothLayouts<'_>, side: Side, from: Element<'_>, to: Element<'_>) -> Losses
     ensures { AreLossesOfEntry (record_of (layout_records layouts.now) side) from.entry.number
         from.entry.part layouts.now.output.now to.entry.number to.entry.part result }
 {

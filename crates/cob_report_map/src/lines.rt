@@ -46,8 +46,9 @@ fn named_in<'a>(sides: &'a Sides<'_>, side: Side, element: Element<'_>) -> Named
         Side::In => &sides.input,
         Side::Out => &sides.output,
     };
-    NamedOccurrence::new(drawn.layout.root(), element.number, element.subscripts)
-        .parted(element.part)
+    NamedOccurrence::new(drawn.layout.root(), element.number, element.subscripts).parted(
+        element.part,
+    )
 }
 
 /// What a single move sends, which prints as the name of an occurrence or as a constant.
