@@ -16,6 +16,9 @@ lost_among-requires c = λ at lt. subst
 pub cover_by-requires-clause-front : goal.cover_by-requires-clause-front
 cover_by-requires-clause-front c = c.covered_front-front.ensures.front c.args.covered.now c.requires.known
 
+pub cover_by-requires-clause-known : goal.cover_by-requires-clause-known
+cover_by-requires-clause-known c = c.covered_front-front.ensures.ends c.args.covered.now c.requires.known
+
 pub returns-clause-told : goal.returns-clause-told
 returns-clause-told c =
     let tree = c.args.output.now in
