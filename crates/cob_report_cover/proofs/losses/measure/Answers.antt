@@ -1,3 +1,4 @@
+use Rattle.std.proofs.Common.{rules}
 use Rattle.cob_report_cover.proofs.LosingLemmas.{few_bytes}
 use Rattle.cob_report_cover.proofs.losses.measure.Goals as goal
 

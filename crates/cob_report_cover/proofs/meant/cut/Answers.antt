@@ -1,3 +1,4 @@
+use Rattle.std.proofs.Common.{rules}
 use Rattle.cob_report_cover.proofs.GatherLemmas.{can_be_cut}
 use Rattle.cob_report_cover.proofs.meant.cut.Goals as goal
 
