@@ -9,10 +9,9 @@ mod lists;
 mod stage;
 
 use crate::lists::ListRows;
-use cob_test_conditions::ConditionRows;
 use cob_test_copybooks::CopybookRows;
 use cob_test_items::ItemRows;
-use cob_test_moves::MoveRows;
+use cob_test_moves::{ConditionRows, MoveRows};
 use cob_test_rows::print_table;
 use cob_test_sweep::print_sweep;
 use std::rt::{Env, Files};

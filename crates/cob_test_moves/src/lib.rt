@@ -1,18 +1,25 @@
 //! Answers tables of rows about moves between records: single moves, whole paragraphs, the counts that these read, and each text of templates of
-//! copybooks and of paragraphs.
+//! copybooks and of paragraphs. It answers those about conditions too: what two operands compare to, whether entries are of a class, how conditions are
+//! written, and what they mean between two records.
 //!
-//! [`MoveRows`] answers them, and those about records by `cob_test_layouts`; each table belongs to one module, which says how its rows are read. Mostly
-//! the first field of a row is the question, and a record is written as the entries of its copybook, parted by bars, one a line. The tables stand in
-//! `data/moves` of `cob_test_jobs`, and what must be printed in its `stdout`, worked out by hand from the rules of COBOL.
+//! [`MoveRows`] answers those about moves, and those about records by `cob_test_layouts`, and [`ConditionRows`] those about conditions. Each table belongs to
+//! one module, which says how its rows are read. Mostly the first field of a row is the question, and a record is written as the entries of its copybook,
+//! parted by bars, one a line. The tables stand in `data/moves` and `data/conditions` of `cob_test_jobs`, and what must be printed in its `stdout`, worked
+//! out by hand from the rules of COBOL.
 #![tactic(auto)]
 
 mod choices;
+mod compared;
+mod kinds;
+mod meant;
 mod moves;
+mod operands;
 mod paragraphs;
 mod reader;
 mod reads;
 mod template;
 mod templates;
+mod written;
 
 use cob_test_layouts::LayoutRows;
 use cob_test_rows::{Family, Row, RowFault, TextBuffer};
@@ -34,6 +41,20 @@ impl Family for MoveRows {
             "copybook_templates" | "line_templates" => templates::read_copybooks(alloc, row, out),
             "paragraph_templates" => templates::read_paragraphs(alloc, row, out),
             _ => LayoutRows::answer(alloc, table, row, out),
+        }
+    }
+}
+
+/// The tables on conditions.
+pub struct ConditionRows;
+
+impl Family for ConditionRows {
+    fn answer(alloc: Global, table: &str, row: &Row, out: &mut TextBuffer) -> Result<(), RowFault> {
+        match table {
+            "compared" => compared::answer(alloc, row, out),
+            "meant" => meant::answer(alloc, row, out),
+            "written" => written::answer(alloc, row, out),
+            _ => Err(RowFault::BadRow),
         }
     }
 }

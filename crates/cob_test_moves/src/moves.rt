@@ -6,13 +6,13 @@
 //!
 //! An item and a group each stand as a record of their own.
 
-ghost use Rattle.std.specs.Prelude.{length, IsTrue};
-ghost use Rattle.cob_copybook_tree.specs.Items.{IsStorable};
+ghost use Rattle.std.specs.Prelude.{length};
 ghost use Rattle.cob_move_receive.specs.Sent.{sent, Occupies, HasAllBytes};
 
+use crate::kinds::has_bytes;
 use cob_codec::Reading;
 use cob_copybook::Role;
-use cob_copybook_tree::{Item, Kind, is_number, is_number_item};
+use cob_copybook_tree::Kind;
 use cob_move_receive::{Refusal, SenderKind, Sent, receive, refusal_of};
 use cob_test_layouts::{book_at, constant_of};
 use cob_test_rows::{Row, RowFault, TextBuffer, push_digits};
@@ -20,27 +20,6 @@ use std::alloc::Global;
 
 /// What stands in a receiver's bytes before the move.
 const UNWRITTEN: u8 = 0xAA;
-
-/// Whether bytes can hold what an item describes.
-fn is_storable(item: &Item) -> bool
-    ensures { IsTrue result → IsStorable item.now }
-{
-    if is_number(item) {
-        is_number_item(item)
-    } else {
-        item.size() == item.picture.size()
-    }
-}
-
-/// Whether so many bytes are those of an item, or of a group.
-fn has_bytes(kind: &Kind, length: usize) -> bool
-    ensures { IsTrue result → Occupies kind.now length }
-{
-    match kind {
-        Kind::Group => true,
-        Kind::Item(item) => length == usize::from(item.size()) && is_storable(item),
-    }
-}
 
 /// The rule that refuses a move.
 fn rule_name(refusal: Refusal) -> &'static str {

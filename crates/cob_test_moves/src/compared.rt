@@ -7,43 +7,22 @@
 //!
 //! An item and a group each stand as a record of their own.
 
-ghost use Rattle.std.specs.Prelude.{◌≡◌, IsTrue};
-ghost use Rattle.cob_copybook_tree.specs.Items.{IsStorable};
+ghost use Rattle.std.specs.Prelude.{◌≡◌};
 ghost use Rattle.cob_move_condition.specs.Comparable.{kind_of_sent};
-ghost use Rattle.cob_move_receive.specs.Sent.{HasAllBytes, Occupies, sent};
+ghost use Rattle.cob_move_receive.specs.Sent.{HasAllBytes, sent};
 ghost use Rattle.cob_move_receive.specs.Table.{sender_kind};
 
+use crate::kinds::has_bytes;
 use cob_codec::Reading;
 use cob_copybook::{Book, Role};
 use cob_copybook_entry::Value;
-use cob_copybook_tree::{Item, Kind, is_number, is_number_item};
+use cob_copybook_tree::Kind;
 use cob_move_condition::{Class, WithoutValue, compare, is_in_class, may_compare};
 use cob_move_receive::{SenderKind, Sent};
 use cob_test_layouts::{book_at, constant_of};
 use cob_test_rows::{Row, RowFault, TextBuffer};
 use std::alloc::Global;
 use std::cmp::Ordering;
-
-/// Whether bytes can hold what an item describes.
-fn is_storable(item: &Item) -> bool
-    ensures { IsTrue result → IsStorable item.now }
-{
-    if is_number(item) {
-        is_number_item(item)
-    } else {
-        item.size() == item.picture.size()
-    }
-}
-
-/// Whether so many bytes are those of an item, or of a group.
-fn has_bytes(kind: &Kind, length: usize) -> bool
-    ensures { IsTrue result → Occupies kind.now length }
-{
-    match kind {
-        Kind::Group => true,
-        Kind::Item(item) => length == usize::from(item.size()) && is_storable(item),
-    }
-}
 
 /// The word for an order.
 fn order_name(order: Ordering) -> &'static str {
