@@ -33,7 +33,7 @@ pub(crate) const PROGRESS_HELP: &str = "Tell on standard error how far it is";
 
 // What `--tally` does.
 pub(crate) const TALLY_HELP: &str =
-    "With --zones any, say behind done how many values were read\nso that strict zones refuse, by their items";
+    "With --zones any, print behind done how many values were\nread that strict zones refuse, by their items";
 
 // What `--report` names.
 pub(crate) const REPORT_HELP: &str =
