@@ -1,6 +1,6 @@
 -- What is counted of moves, by what was seen of them.
 use Rattle.std.specs.Prelude.{if◌then◌else◌}
-use Rattle.std.proofs.Common.{◌≡◌, ◌↔◌, ◌∙◌, ℕ, zero, suc, ◌+◌, Bool, true, false, List, [], ◌∷◌, ◌++◌, length, map, take, refl, sym, ap, subst, append_assoc, append-nil, length-append, arith, inl, inr, Ok}
+use Rattle.std.proofs.Common.{◌≡◌, ◌↔◌, ◌∙◌, ℕ, zero, suc, ◌+◌, ◌-◌, ◌<◌, Bool, true, false, List, [], ◌∷◌, ◌++◌, length, map, take, refl, sym, ap, subst, append_assoc, append-nil, length-append, arith, inl, inr, Ok}
 use Rattle.cob_codec.specs.declared.reading.Reading.{Reading}
 use Rattle.cob_copybook_tree.specs.Forests.{Forest}
 use Rattle.cob_copybook_tree.specs.Nodes.{Resolved, is_group_kind}
@@ -166,3 +166,35 @@ pub statements_count : (x : Reading) (r : Records) (ss : List StatementMoves) (i
     → MovesCount r (moves_by x r ss) input before after (counted_of ones)
 statements_count x r ss input before after ones h =
     subst (λ (ms : List Move). MovesCount r ms input before after (counted_of ones)) (all_meant x r 0 ss) (moves_count x r (numbered_moves 0 ss) input before after ones h)
+
+-- ---- whether the first receivers are groups
+
+pub none_asked : (f : Ref → Operand) (count : ℕ) (rs : List Ref) → count ≡ 0 → true ≡ are_groups (map f (take count rs))
+none_asked f count rs is = ap (λ (n : ℕ). are_groups (map f (take n rs))) (sym is)
+
+pub none_left : (f : Ref → Operand) (count : ℕ) (rs : List Ref) → rs ≡ [] → true ≡ are_groups (map f (take count rs))
+none_left f count rs is = empty count ∙ ap (λ (qs : List Ref). are_groups (map f (take count qs))) (sym is)
+  where
+    empty : (n : ℕ) → true ≡ are_groups (map f (take n []))
+    empty zero = refl
+    empty (suc n) = refl
+
+asked : (f : Ref → Operand) (n : ℕ) (q : Ref) (more : List Ref) (k : Kind) (b : Bool) → k ≡ (f q).kind → is_group_kind k ≡ b
+    → (if b then are_groups (map f (take n more)) else false) ≡ are_groups (map f (take (suc n) (q ∷ more)))
+asked f n q more k b same is =
+    ap (λ (c : Bool). if c then are_groups (map f (take n more)) else false) (sym is ∙ ap is_group_kind same)
+
+at_least : (n : ℕ) → 0 < n → suc (n - 1) ≡ n
+at_least n lt = omega (arith, lt)
+
+pub group_then : (f : Ref → Operand) (count : ℕ) (rs more : List Ref) (q : Ref) (k : Kind) (answer : Bool) → rs ≡ q ∷ more → 0 < count → k ≡ (f q).kind → is_group_kind k ≡ true
+    → answer ≡ are_groups (map f (take (count - 1) more)) → answer ≡ are_groups (map f (take count rs))
+group_then f count rs more q k answer is some same group h =
+    h ∙ asked f (count - 1) q more k true same group
+    ∙ ap (λ (n : ℕ). are_groups (map f (take n (q ∷ more)))) (at_least count some) ∙ ap (λ (qs : List Ref). are_groups (map f (take count qs))) (sym is)
+
+pub item_then : (f : Ref → Operand) (count : ℕ) (rs more : List Ref) (q : Ref) (k : Kind) → rs ≡ q ∷ more → 0 < count → k ≡ (f q).kind → is_group_kind k ≡ false
+    → false ≡ are_groups (map f (take count rs))
+item_then f count rs more q k is some same item =
+    asked f (count - 1) q more k false same item
+    ∙ ap (λ (n : ℕ). are_groups (map f (take n (q ∷ more)))) (at_least count some) ∙ ap (λ (qs : List Ref). are_groups (map f (take count qs))) (sym is)

@@ -3,6 +3,7 @@ pub mod EachLemmas
 pub mod LawLemmas
 pub mod CountedLemmas
 pub mod CountingLemmas
+pub mod CounterLemmas
 pub mod WalkLemmas
 pub mod ReadLemmas
 pub mod FlowingLemmas

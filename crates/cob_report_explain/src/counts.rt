@@ -107,7 +107,10 @@ impl Watcher for ZoneCounts {
     fn begin(&mut self, _statements: usize) {}
 
     fn see(&mut self, one: &CarriedMove<'_>) {
-        if one.by_any_zones && one.is_first {
+        if !one.by_any_zones {
+            return;
+        }
+        if one.is_first {
             self.count_sender(one.sender);
         }
     }
