@@ -1,18 +1,18 @@
 -- Counters of values that were read by any zones.
 use Rattle.std.proofs.Common.{◌≡◌, ◌∙◌, ℕ, zero, suc, Bool, true, false, List, [], ◌∷◌, ◌++◌, length, refl, sym, ap, append-nil, arith}
+use Rattle.std.specs.Prelude.{get_or}
+use Rattle.std.proofs.lemmas.List.{length-set}
 use Rattle.cob_move_data.specs.declared.operands.Sender as code
 use Rattle.cob_move_data.specs.declared.operands.Side.{Side}
 use Rattle.cob_move_data.specs.declared.operands.Side.TheVariants.{In, Out}
-use Rattle.cob_report_explain.specs.Counted.{Counts, SendingItem, count_items, one_more_at, one_more_of}
+use Rattle.cob_report_explain.specs.Counted.{Counts, SendingItem, count_items, one_more, one_more_at, one_more_of}
 use Rattle.cob_report_explain.specs.Counting.{AreAlike, one_counted}
 use Rattle.cob_report_explain.specs.Each.{counted_if, item_sent}
 
 -- ---- there are as many as before
 
 long_at : (n : ℕ) (cs : List ℕ) → length (one_more_at n cs) ≡ length cs
-long_at n [] = refl
-long_at zero (c ∷ cs) = refl
-long_at (suc n) (c ∷ cs) = ap suc (long_at n cs)
+long_at n cs = length-set cs n (one_more (get_or cs n 0))
 
 alike_of : (side : Side) (n : ℕ) (c : Counts) → AreAlike (one_more_of side n c) c
 alike_of In n c = (long_at n c.input, refl)

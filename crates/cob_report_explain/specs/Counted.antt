@@ -1,5 +1,5 @@
 -- Values that were read by any zones, where strict zones give none: how many, by the items that sent them, over what is carried out on a record.
-use Rattle.std.specs.Prelude.{◌≡◌, ◌⊎◌, ◌+◌, ℕ, zero, suc, Bool, true, false, List, [], ◌∷◌, ◌++◌, min, Option, Ok, option_map}
+use Rattle.std.specs.Prelude.{◌≡◌, ◌⊎◌, ◌+◌, ℕ, true, false, List, [], ◌∷◌, ◌++◌, get_or, set, min, Option, Ok, option_map}
 use Rattle.cob_records.specs.Device.{greatest_count}
 use Rattle.cob_move_data.specs.declared.operands.Operand.{Operand}
 use Rattle.cob_move_data.specs.declared.operands.Side.{Side}
@@ -84,9 +84,7 @@ one_more n = min (n + 1) greatest_count
 
 -- one more for the entry with this number, where there is one
 abbrev pub one_more_at : ℕ → List ℕ → List ℕ
-one_more_at n [] = []
-one_more_at zero (c ∷ cs) = one_more c ∷ cs
-one_more_at (suc n) (c ∷ cs) = c ∷ one_more_at n cs
+one_more_at n counts = set counts n (one_more (get_or counts n 0))
 
 -- one more for an item of this side
 abbrev pub one_more_of : Side → ℕ → Counts → Counts
