@@ -4,7 +4,7 @@ ghost use Rattle.std.specs.Prelude.{◌≡◌, ◌<◌, ◌≤◌, ◌+◌, [], 
 ghost use Rattle.cob_limits.specs.Limits.{longest_record};
 ghost use Rattle.cob_copybook.specs.Books.{IsBookOf};
 ghost use Rattle.cob_copybook.specs.declared.role.Role.TheVariants.{Out};
-ghost use Rattle.cob_convert.specs.Aside.{tally_for};
+ghost use Rattle.cob_convert.specs.Aside.{RanAside, tally_for};
 ghost use Rattle.cob_convert.specs.Outcomes.{IsRejected, append_notes};
 ghost use Rattle.cob_convert.specs.Run.{IsConverted};
 ghost use Rattle.cob_convert_record.specs.Conversion.{in_length, out_length};
@@ -14,7 +14,7 @@ ghost use Rattle.cob_records.specs.Device.{Told, Took};
 ghost use Rattle.cob_records.specs.Forms.{FitsForm, outlet_of};
 ghost use Rattle.cob_records.specs.Frame.{IsRecord, Puts};
 ghost use Rattle.cob_report_explain.specs.Counting.{CountsRecord, HasCountingRoom, are_none, counted_in};
-ghost use Rattle.cob_program_run.specs.Counting.{RanCounting};
+ghost use Rattle.cob_program_run.specs.Counting.{CountsOver};
 ghost use Rattle.cob_program_run.specs.CountingRoom.{HasRunRoom};
 
 use cob_convert::{AsideFault, Cause, Conversion, Converter, Notes, RunFault, Side, Tally};
@@ -263,11 +263,13 @@ impl CountingConverter {
         most: u64,
     ) -> Result<Tally, AsideFault>
         requires room { HasRunRoom self.old }
-        // Counted is what `BecomesCounting` says of each record that was converted, and nothing of a rejected one.
         ensures ran { Told (R.coming source.old) (R.coming source.new) (λ bytes rest.
-            RanCounting self.old.converter most result bytes rest
+            RanAside self.old.converter most result bytes rest
             (record { sink = W.taken sink.old; aside = A.taken aside.old; notes = N.told notes.old })
-            (record { sink = W.taken sink.new; aside = A.taken aside.new; notes = N.told notes.new })
+            (record { sink = W.taken sink.new; aside = A.taken aside.new; notes = N.told notes.new })) }
+        // Counted is what `BecomesCounting` says of each record that was converted, and nothing of a rejected one.
+        ensures counts { Told (R.coming source.old) (R.coming source.new) (λ bytes rest.
+            CountsOver self.old.converter result bytes
             (counted_in self.old.counting) (counted_in self.new.counting)) }
         ensures room { HasRunRoom self.new }
     {
