@@ -1,13 +1,16 @@
 -- What a run counted so far, one more record, and its end.
-use Rattle.std.proofs.Common.{◌≡◌, ◌∙◌, ℕ, ◌+◌, List, [], ◌∷◌, ◌++◌, length, take, refl, sym, subst, ap, append_assoc, append-nil, arith, None, Some, Option, Ok, Err, Result}
+use Rattle.std.proofs.Common.{◌≡◌, ◌∙◌, ℕ, ◌+◌, ◌-◌, List, [], ◌∷◌, ◌++◌, length, take, min, refl, sym, subst, ap, append_assoc, append-nil, arith, None, Some, Option, Ok, Err, Result}
 use Rattle.std.proofs.Math.ListN.{length-append}
 use Rattle.std.specs.List.{AllByRecursion}
-use Rattle.cob_records.specs.Device.{Told}
+use Rattle.cob_records.specs.Device.{Told, Took, greatest_count}
+use Rattle.cob_records.specs.declared.outlet.Outlet.{Outlet}
 use Rattle.cob_records.specs.Forms.{Come, ComesFirst}
 use Rattle.cob_convert_record.specs.Conversion.{Conversion, in_length}
 use Rattle.cob_convert_stream.specs.Whole.{IsWholeRecord, ReadsWhole}
 use Rattle.cob_convert_stream.specs.declared.fault.Reason.{Reason}
-use Rattle.cob_convert.specs.Aside.{tally_of}
+use Rattle.cob_convert.specs.Aside.{AllOut, ClosesAside, PartOut, answer_over, tally_for, tally_of}
+use Rattle.cob_convert.specs.declared.aside.AsideOutcome.{AsideOutcome}
+use Rattle.cob_convert.specs.declared.aside.AsideOutcome.TheVariants as ending
 use Rattle.cob_convert.specs.Outcomes.{Became, HasItsOutcome, IsRejected, Outcome, WasRejected, converted_of, inputs_of, rejected_of}
 use Rattle.cob_convert.specs.Run.{IsConverted}
 use Rattle.cob_convert.specs.declared.aside.AsideFault.{AsideFault}
@@ -136,3 +139,44 @@ counted_over conversion n rejected opened answer r0 r1 r2 before now P so_far re
       counted = so_far.counted;
       counts = so_far.counts;
     })
+
+-- each record that came was converted or rejected
+settled : (records : List (List ℕ × Outcome)) → length (converted_of records) + length (rejected_of records) ≡ length records
+settled [] = refl
+settled ((body, Became out) ∷ records) = omega (arith, settled records)
+settled ((body, WasRejected why) ∷ records) = omega (arith, settled records)
+
+-- the tally behind so many records is that of these
+tally_is : (conversion : Conversion) (n rejected opened : ℕ) (r0 r : Option (List ℕ)) (before now : Counts) (so_far : CountedSoFar conversion n rejected opened r0 r before now) (t : Tally) → t ≡ tally_for n rejected
+    → t ≡ tally_of so_far.records
+tally_is conversion n rejected opened r0 r before now so_far t is =
+    let tally : ℕ → ℕ → Tally = λ c k. record { converted = c; rejected = k } in
+    let size : n - rejected ≡ length (converted_of so_far.records) = omega (arith, settled so_far.records, so_far.count, so_far.rejects) in
+    is ∙ ap (λ (c : ℕ). tally c rejected) size ∙ ap (tally (length (converted_of so_far.records))) (sym so_far.rejects)
+
+all_over : (records : List (List ℕ × Outcome)) (tally : Tally) (n written : ℕ) (why : AsideOutcome) → tally ≡ tally_of records → AreAllOf records (answer_over tally n written why)
+all_over records tally n written ending.Done is = is
+all_over records tally n written (ending.Stopped why) is = tt
+all_over records tally n written (ending.NotSetAside cause) is = tt
+
+all_closed : (o : Outlet) (tally : Tally) (n first written : ℕ) (why : AsideOutcome) (answer : Result Tally AsideFault) (part : List ℕ) (records : List (List ℕ × Outcome)) → tally ≡ tally_of records
+    → ClosesAside o tally n first written why answer part → AreAllOf records answer
+all_closed o tally n first written why answer part records is (AllOut all eq) = subst (λ (a : Result Tally AsideFault). AreAllOf records a) (sym eq) (all_over records tally n (min (written + length part) greatest_count) why is)
+all_closed o tally n first written why answer part records is (PartOut cause puts eq) = subst (λ (a : Result Tally AsideFault). AreAllOf records a) (sym eq) tt
+
+-- a run that is over for this, and wrote what its outlet held back
+pub counted_closed : (conversion : Conversion) (n rejected opened first written : ℕ) (o : Outlet) (t : Tally) (why : AsideOutcome) (answer : Result Tally AsideFault) (r0 r1 r2 sink_before sink_now : Option (List ℕ)) (before now : Counts)
+    (P : List ℕ → List ℕ → Type 0) → CountedSoFar conversion n rejected opened r0 r1 before now → Told r1 r2 P → t ≡ tally_for n rejected → Took sink_before sink_now (ClosesAside o t n first written why answer)
+    → Told r0 r2 (λ bytes rest. CountsOver conversion answer bytes before now)
+counted_closed conversion n rejected opened first written o t why answer r0 r1 r2 sink_before sink_now before now P so_far read is (part, closes, put) =
+    counted_over conversion n rejected opened answer r0 r1 r2 before now P so_far read
+    (all_closed o t n first written why answer part so_far.records (tally_is conversion n rejected opened r0 r1 before now so_far t is) closes)
+
+-- a run that a failed write stops
+pub counted_stopped : (conversion : Conversion) (n rejected opened : ℕ) (fault : AsideFault) (r0 r1 r2 : Option (List ℕ)) (before now : Counts) (P : List ℕ → List ℕ → Type 0)
+    → CountedSoFar conversion n rejected opened r0 r1 before now → Told r1 r2 P → Told r0 r2 (λ bytes rest. CountsOver conversion (Err fault) bytes before now)
+counted_stopped conversion n rejected opened fault r0 r1 r2 before now P so_far read = counted_over conversion n rejected opened (Err fault) r0 r1 r2 before now P so_far read tt
+
+pub unread : (r : Option (List ℕ)) → Told r r (λ bytes rest. Unit {0})
+unread None = tt
+unread (Some xs) = tt

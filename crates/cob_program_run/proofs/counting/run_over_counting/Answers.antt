@@ -1,4 +1,4 @@
-use Rattle.std.proofs.Common.{◌∷◌, [], true, rules, arith, refl, subst, take, ◌∙◌, ap, Ok, Err}
+use Rattle.std.proofs.Common.{◌+◌, ◌∷◌, [], true, rules, arith, refl, subst, sym, take, ◌∙◌, ap, Ok, Err}
 use Rattle.cob_records.specs.Alone.{framed_alone}
 use Rattle.cob_records.specs.Device.{Took, counted}
 use Rattle.cob_records.specs.Frame.{Puts, is_write_error}
@@ -11,9 +11,10 @@ use Rattle.cob_convert.specs.declared.aside.AsideFault.TheVariants as fault
 use Rattle.cob_convert.specs.declared.aside.AsideOutcome.TheVariants as ending
 use Rattle.cob_convert.specs.Aside.{is_aside_ending, is_aside_error, is_aside_error_ending, is_aside_fault, is_read_ending, is_read_fault}
 use Rattle.cob_convert.specs.Outcomes.{append_notes}
+use Rattle.cob_convert.specs.Run.{limit_reason}
 use Rattle.cob_convert.proofs.Sifted.{aside_error_over, aside_exit, aside_over, clean_exit, counts_closed, emptied_again, fits_in, input_exit, limit_exit, read_over, record_size, reject_exit, start, step_converted, step_rejected, write_exit}
 use Rattle.cob_report_explain.specs.Counting.{counted_in}
-use Rattle.cob_program_run.proofs.CountedRun.{counted_converted, counted_none, counted_rejected}
+use Rattle.cob_program_run.proofs.CountedRun.{counted_closed, counted_converted, counted_none, counted_rejected, counted_stopped, unread}
 use Rattle.cob_program_run.proofs.counting.run_over_counting.Goals as goal
 
 pub loop-done-init : goal.loop-done-init
@@ -180,3 +181,35 @@ pub returns-clause-outlet : goal.returns-clause-outlet
 returns-clause-outlet g c =
     emptied_again c.args.conversion.now c.args.most c.loop-done.done c.loop-done.rejected c.loop-done.first c.loop-done.written c.loop-done.left c.loop-done.outlet _ _ _ (g.R.Source.coming c.loop-done.source) _ (record { sink = g.W.Sink.taken c.loop-done.sink; aside = g.A.Sink.taken c.loop-done.aside; notes = g.N.Notes.told c.loop-done.notes })
     c.loop-done.invariant.so_far c.requires.outlet c.close_at_limit.ensures.emptied
+
+pub returns-in-Ok-None-clause-counts : goal.returns-in-Ok-None-clause-counts
+returns-in-Ok-None-clause-counts g c =
+    counted_closed c.args.conversion.now c.loop-done.done c.loop-done.rejected c.loop-done.left c.loop-done.first c.loop-done.written c.loop-done.outlet _ ending.Done c.close_aside.result _ (g.R.Source.coming c.loop-done.source) _ _ _ (counted_in c.args.counting.now) (counted_in c.loop-done.counting) _
+    c.loop-done.invariant.counted (rw c.in-Ok-None.field-0-is at c.in-Ok-None.ensures.reads) c.tally_behind-tally.ensures c.close_aside.ensures.closes
+
+pub returns-in-Err-clause-counts : goal.returns-in-Err-clause-counts
+returns-in-Err-clause-counts g c =
+    counted_closed c.args.conversion.now c.loop-done.done c.loop-done.rejected c.loop-done.left c.loop-done.first c.loop-done.written c.loop-done.outlet _ (ending.Stopped c.in-Err.why) c.close_aside-in-Err.result _ (g.R.Source.coming c.loop-done.source) _ _ _ (counted_in c.args.counting.now) (counted_in c.loop-done.counting) _
+    c.loop-done.invariant.counted (rw c.in-Err.is at c.next_whole.ensures.reads) c.tally_behind-tally.ensures c.close_aside-in-Err.ensures.closes
+
+pub returns-then-rejected-most-clause-counts : goal.returns-then-rejected-most-clause-counts
+returns-then-rejected-most-clause-counts g c =
+    rw (sym c.in-Err-converted.ensures.none) at (counted_closed c.args.conversion.now c.loop-done.done c.loop-done.rejected c.loop-done.left c.loop-done.first c.loop-done.written c.loop-done.outlet _ (ending.Stopped c.in-Err-converted.why) c.close_aside-then-rejected-most.result _ (g.R.Source.coming c.loop-done.source) _ _ _ (counted_in c.args.counting.now) (counted_in c.loop-done.counting) _
+    c.loop-done.invariant.counted (rw c.in-Ok-Some.field-0-is at c.in-Ok-Some.ensures.reads) c.tally_behind-tally.ensures c.close_aside-then-rejected-most.ensures.closes)
+
+pub returns-in-Err-set_aside-clause-counts : goal.returns-in-Err-set_aside-clause-counts
+returns-in-Err-set_aside-clause-counts g c =
+    rw (sym c.in-Err-converted.ensures.none) at (counted_closed c.args.conversion.now c.loop-done.done c.loop-done.rejected c.loop-done.left c.loop-done.first c.loop-done.written c.loop-done.outlet _ (ending.NotSetAside c.in-Err-set_aside.cause) c.close_aside-in-Err-set_aside.result _ (g.R.Source.coming c.loop-done.source) _ _ _ (counted_in c.args.counting.now) (counted_in c.loop-done.counting) _
+    c.loop-done.invariant.counted (rw c.in-Ok-Some.field-0-is at c.in-Ok-Some.ensures.reads) c.tally_behind-tally.ensures c.close_aside-in-Err-set_aside.ensures.closes)
+
+pub returns-in-Err-write_record-clause-counts : goal.returns-in-Err-write_record-clause-counts
+returns-in-Err-write_record-clause-counts g c =
+    counted_stopped c.args.conversion.now (c.loop-done.done + 1) c.loop-done.rejected c.next_whole.new.left _ _ (g.R.Source.coming c.next_whole.new.source) (g.R.Source.coming c.next_whole.new.source) (counted_in c.args.counting.now) (counted_in c.converted.new.counting) _
+    (counted_converted c.args.conversion.now c.loop-done.done c.loop-done.rejected c.loop-done.left c.next_whole.new.left c.in-Ok-Some.count c.next_whole.new.slot (take c.in-Ok.made c.converted.new.output)
+    _ (g.R.Source.coming c.loop-done.source) _ (counted_in c.args.counting.now) (counted_in c.loop-done.counting) (counted_in c.converted.new.counting)
+    c.loop-done.invariant.counted (rw c.in-Ok-Some.field-0-is at c.in-Ok-Some.ensures.reads) c.in-Ok.ensures.converts c.in-Ok.ensures.counts) (unread (g.R.Source.coming c.next_whole.new.source))
+
+pub returns-clause-counts : goal.returns-clause-counts
+returns-clause-counts g c =
+    counted_closed c.args.conversion.now c.loop-done.done c.loop-done.rejected c.loop-done.left c.loop-done.first c.loop-done.written c.loop-done.outlet _ (ending.Stopped limit_reason) c.close_at_limit.result _ (g.R.Source.coming c.loop-done.source) _ _ _ (counted_in c.args.counting.now) (counted_in c.loop-done.counting) _
+    c.loop-done.invariant.counted (unread (g.R.Source.coming c.loop-done.source)) (search rules) c.close_at_limit.ensures.closes
