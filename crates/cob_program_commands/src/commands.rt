@@ -4,6 +4,7 @@ ghost use Rattle.cob_records.specs.Forms.{HasBlockSize};
 ghost use Rattle.cob_program_faults.specs.Ends.{EndsAmong};
 ghost use Rattle.cob_program_list.specs.Ends.{MayEndListing};
 ghost use Rattle.cob_program_texts.specs.CheckEnds.{EndsCheck};
+ghost use Rattle.cob_program_report.specs.Ends.{EndsReported};
 ghost use Rattle.cob_program_commands.specs.Commands.{EndsAsked, EndsConvert, IsEndOfLine, IsEndOfMeant, IsEndOfRefusal, IsEndOfSaid, IsEndOfWords, status_of_refusal};
 
 use crate::handed::with_handed_books;
@@ -26,7 +27,9 @@ use cob_program_line::{
 use cob_program_list::{do_layout, do_pieces, do_show};
 use cob_program_manual::{do_completion, do_manual};
 use cob_program_map::do_map;
-use cob_program_report::{Reported, do_convert_reported, do_convert_tallied};
+use cob_program_report::{
+    Reported, do_convert_reported, do_convert_tallied, do_convert_tallied_reported,
+};
 use cob_program_runtime::{NamedFile, Noted};
 use cob_program_texts::{do_check, do_cover, do_draft, do_lossless};
 use cob_program_words::meant_words;
@@ -79,15 +82,31 @@ fn do_asked_conversion<R: AllocGlobal + Files + Input + Print + Eprint + Clock>(
     match line.report {
         None if line.tally => do_convert_tallied(rt, line, explain),
         None => do_plain_conversion(rt, line, explain),
-        Some(path) => do_convert_reported(
-            rt,
-            line,
-            Reported {
+        Some(path) => {
+            let reported = Reported {
                 path,
                 version: VERSION,
                 explain,
-            },
-        ),
+            };
+            do_reported_conversion(rt, line, reported)
+        }
+    }
+}
+
+/// Converts a file of records, and reports what the run came to.
+fn do_reported_conversion<R: AllocGlobal + Files + Input + Print + Eprint + Clock>(
+    rt: &R,
+    line: &ConvertLine<'_>,
+    reported: Reported<'_>,
+) -> Status
+    requires in_block { HasBlockSize line.now.forms.input }
+    requires out_block { HasBlockSize line.now.forms.output }
+    ensures { EndsReported (EndsConvert line.now.rejects line.now.atomic result) result }
+{
+    if line.tally {
+        do_convert_tallied_reported(rt, line, reported)
+    } else {
+        do_convert_reported(rt, line, reported)
     }
 }
 

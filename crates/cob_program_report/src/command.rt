@@ -25,8 +25,8 @@ use std::time::Instant;
 
 /// A watcher that counts why records are rejected.
 #[derive(Drop)]
-struct Counting<'a> {
-    causes: &'a mut Causes,
+pub(crate) struct Counting<'a> {
+    pub(crate) causes: &'a mut Causes,
 }
 
 impl RejectionWatcher for Counting<'_> {
@@ -40,7 +40,7 @@ impl RejectionWatcher for Counting<'_> {
 }
 
 /// How many milliseconds there are since a moment.
-fn milliseconds_since<R: Clock>(rt: &R, began: Option<Instant>) -> u64 {
+pub(crate) fn milliseconds_since<R: Clock>(rt: &R, began: Option<Instant>) -> u64 {
     match (began, Instant::now(rt)) {
         (Some(began), Ok(now)) => {
             let passed = now.duration_since(began);
@@ -54,7 +54,7 @@ fn milliseconds_since<R: Clock>(rt: &R, began: Option<Instant>) -> u64 {
 }
 
 /// Prints what is at fault with a report, and answers how the command ends.
-fn tell_unreported<R: Eprint>(rt: &R, fault: ReportFault) -> Status
+pub(crate) fn tell_unreported<R: Eprint>(rt: &R, fault: ReportFault) -> Status
     ensures { LacksReport result }
 {
     printed(eprintln!(rt; "{fault}"), fault.status())
@@ -80,7 +80,7 @@ pub(crate) fn tell<R: AllocGlobal + Files + Input + Print + Eprint>(
 }
 
 /// Writes the text of a report, and answers how the command ends, which else ends so.
-fn write_report<'r, R: AllocGlobal + Files + Print + Eprint>(
+pub(crate) fn write_report<'r, R: AllocGlobal + Files + Print + Eprint>(
     rt: &'r R,
     line: &ConvertLine<'_>,
     path: &str,

@@ -21,5 +21,5 @@ mod texts;
 mod told;
 
 pub use command::do_convert_reported;
-pub use tallied::do_convert_tallied;
+pub use tallied::{do_convert_tallied, do_convert_tallied_reported};
 pub use told::Reported;

@@ -13,7 +13,7 @@ use cob_convert::Converter;
 use cob_program_faults::{CommandFault, FileName, fitting, text_of};
 use cob_program_line::ConvertLine;
 use cob_report_cover::bytes_covered;
-use cob_report_run::Causes;
+use cob_report_run::{Causes, ZonesTold};
 use std::alloc::{AllocError, Global};
 use std::rt::Files;
 
@@ -130,6 +130,8 @@ pub(crate) struct Counted {
     pub(crate) uncovered: u64,
     /// Why records were set aside.
     pub(crate) causes: Causes,
+    /// The items of which values were read by any zones, where these were counted.
+    pub(crate) zones: Option<Vec<ZonesTold>>,
 }
 
 /// What is counted of a converter that has no run behind it. Counting takes no memory.
@@ -141,5 +143,6 @@ pub(crate) fn counted_of(alloc: Global, converter: &Converter) -> Result<Counted
     Ok(Counted {
         uncovered: uncovered(alloc, converter)?,
         causes: Causes::new(alloc)?,
+        zones: None,
     })
 }

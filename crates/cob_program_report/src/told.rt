@@ -10,8 +10,8 @@ use cob_program_faults::{CommandDone, CommandFault};
 use cob_program_line::{ConvertLine, TextFiles};
 use cob_records::size_of;
 use cob_report_run::{
-    CauseTold, Causes, RunCounts, RunFile, RunReport, RunText, is_json, item_at, report_json,
-    report_text, sum_of,
+    CauseTold, Causes, RunCounts, RunFile, RunReport, RunText, ZonesTold, is_json, item_at,
+    report_json, report_text, sum_of,
 };
 use std::alloc::{AllocError, Global};
 use std::rt::Files;
@@ -233,9 +233,18 @@ fn report_with<'r, 'a>(
         counts: counts_of(run.outcome),
         causes: &words.causes,
         others: counted.causes.others(),
+        zones: zones_of(counted),
         skipped,
         uncovered: counted.uncovered,
         milliseconds: run.milliseconds,
+    }
+}
+
+/// The items of which values were read by any zones, where these were counted.
+fn zones_of(counted: &Counted) -> Option<&[ZonesTold]> {
+    match &counted.zones {
+        Some(zones) => Some(zones.as_slice()),
+        None => None,
     }
 }
 

@@ -94,7 +94,7 @@ pub use moves::{Silent, SingleText, Teller, Watching};
 pub use room::{EachRoom, RecordLayouts};
 pub use single::{Asked, CarriedMove, MoveStop, SingleNumber};
 pub use stops::{Scene, condition_words, count_words, move_words, test_words};
-pub use tally::TallyText;
+pub use tally::{ItemCount, TallyText};
 pub use tests::{TakenBound, TakenCondition, TakenTest, TestText};
 pub use walk::{ConditionStop, RecordStop, TestStop, WalkRoom, walk_record};
 pub use walking::each;

@@ -26,5 +26,5 @@ pub use causes::{CauseCount, Causes};
 pub use items::item_at;
 pub use lines::report_text;
 pub use objects::report_json;
-pub use report::{CauseTold, RunCounts, RunFile, RunReport, RunText, is_json};
+pub use report::{CauseTold, RunCounts, RunFile, RunReport, RunText, ZonesTold, is_json};
 pub use sums::sum_of;

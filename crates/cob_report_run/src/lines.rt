@@ -1,6 +1,6 @@
 //! The report of a run as lines of text.
 
-use crate::report::{CauseTold, RunFile, RunReport, RunText};
+use crate::report::{CauseTold, RunFile, RunReport, RunText, ZonesTold};
 use crate::seconds::Seconds;
 use cob_convert_stream::Reason;
 use std::alloc::{AllocError, Global};
@@ -63,6 +63,15 @@ fn push_cause(alloc: Global, out: &mut String, told: &CauseTold) -> Result<(), A
     )?)
 }
 
+/// Adds the lines of the items of which values were read by any zones.
+fn push_zones(alloc: Global, out: &mut String, zones: &[ZonesTold]) -> Result<(), AllocError> {
+    for told in zones {
+        let ZonesTold { item, values } = told;
+        out.push_str(&format!(in alloc; "zones {values} {item}\n")?)?;
+    }
+    Ok(())
+}
+
 /// Adds the lines of what is counted.
 fn push_counts(
     alloc: Global,
@@ -80,6 +89,9 @@ fn push_counts(
     }
     if report.others > 0 {
         out.push_str(&format!(in alloc; "rejected {} elsewhere\n", report.others)?)?;
+    }
+    if let Some(zones) = report.zones {
+        push_zones(alloc, out, zones)?;
     }
     let seconds = Seconds {
         milliseconds: report.milliseconds,

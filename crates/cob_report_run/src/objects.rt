@@ -1,6 +1,6 @@
 //! The report of a run as a JSON object.
 
-use crate::report::{CauseTold, RunFile, RunReport, RunText};
+use crate::report::{CauseTold, RunFile, RunReport, RunText, ZonesTold};
 use crate::seconds::Seconds;
 use cob_convert_stream::Reason;
 use json::{Writer, is_number};
@@ -90,6 +90,19 @@ fn put_causes(alloc: Global, out: &mut Writer, causes: &[CauseTold]) -> Result<(
     out.end_array()
 }
 
+/// Adds the array of the items of which values were read by any zones.
+fn put_zones(out: &mut Writer, zones: &[ZonesTold]) -> Result<(), AllocError> {
+    out.key("zones")?;
+    out.begin_array()?;
+    for told in zones {
+        out.begin_object()?;
+        put_string(out, "item", &told.item)?;
+        put_number(out, "values", told.values)?;
+        out.end_object()?;
+    }
+    out.end_array()
+}
+
 /// Adds how long the run took.
 fn put_seconds(alloc: Global, out: &mut Writer, milliseconds: u64) -> Result<(), AllocError> {
     let seconds = Seconds { milliseconds };
@@ -114,6 +127,9 @@ fn put_counts(
     }
     put_causes(alloc, out, report.causes)?;
     put_number(out, "elsewhere", report.others)?;
+    if let Some(zones) = report.zones {
+        put_zones(out, zones)?;
+    }
     put_number(out, "skipped", report.skipped)?;
     put_number(out, "uncovered", report.uncovered)?;
     put_seconds(alloc, out, report.milliseconds)

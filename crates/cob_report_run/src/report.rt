@@ -49,6 +49,15 @@ impl CauseTold {
     }
 }
 
+/// An item of which values were read by any zones that strict zones refuse, as it is told.
+#[derive(Drop)]
+pub struct ZonesTold {
+    /// Its name.
+    pub item: String,
+    /// How many values there were.
+    pub values: u64,
+}
+
 /// What a run came to.
 #[derive(Clone, Copy)]
 pub struct RunReport<'r, 'a> {
@@ -66,6 +75,8 @@ pub struct RunReport<'r, 'a> {
     pub causes: &'r [CauseTold],
     /// How many more were set aside, whose places are not told.
     pub others: u64,
+    /// The items of which values were read by any zones, where these were counted.
+    pub zones: Option<&'r [ZonesTold]>,
     /// How many records were to be passed over before the first that was converted.
     pub skipped: u64,
     /// How many bytes of the output record no move covers.
