@@ -13,6 +13,8 @@
 //! new ones is on its device; then the rejected records come into their place first, so that an output that is there has them beside it. Where the part of the
 //! rejected records is not made, that of the output does not stay.
 //!
+//! [`convert_counting`] converts either way by a converter that counts the values that were read by any zones, and answers it behind the run.
+//!
 //! What is promised:
 //!
 //! - which faults it can have (`MayEndConvert` and `MayEndAside` of specs/Ends.antt), and that it ends with the status of what it came to, or as where a device

@@ -6,6 +6,9 @@
 //! stops the command before any other file is; and it comes into its place whole behind the run, or not at all. It is not one of the other files, by any name.
 //! Where the texts are refused or a file of records is not opened, there is no run, and no report.
 //!
+//! [`do_convert_tallied`] and [`do_convert_tallied_reported`] do so with `--tally`: behind what the run is done with they print how many values were read by any
+//! zones that strict zones refuse, by their items, and the report tells it too.
+//!
 //! What is promised: that the command ends as `convert` does, with the status of what it came to, or as where a device failed if the report is not in its
 //! place; that the counts which are told are those of the run's answer (`counts_of` of specs/Counts.antt).
 //!

@@ -9,6 +9,8 @@
 //! - [`run_aside_to_end`] sets rejected records aside, and hands what its two outputs still hold to their devices. [`Rejections`] prints the fault line of each
 //!   rejected record, tells a [`RejectionWatcher`] of it and keeps their [`Marks`]. What the run comes to is [`AsideEnding::finished`]; [`placed_run`] puts parts of both outputs in their places.
 //!
+//! - [`run_counting_to_end`] and [`run_counting_aside_to_end`] do the same by a [`CountingConverter`], which counts the values that were read by any zones.
+//!
 //! What is promised:
 //!
 //! - that the converter was run so over all records that came, or over the chosen ones, whether these are all that is left of their source, its first

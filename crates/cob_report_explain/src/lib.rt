@@ -54,12 +54,24 @@
 //! What is promised: what becomes of a record is what a run makes of it (`converts`, `stops` of [`walk_record`], by `Becomes` and `StopsAt` of
 //! `cob_convert_record`). Which words tell it is shown by `cob_test_jobs`.
 //!
+//! # Values counted
+//!
+//! How many values of a record were read by any zones that are none where zones are read strictly, by the items that sent them.
+//!
+//! [`Counting::convert`] makes the output record of an input record by [`walk_record`], and counts in [`ZoneCounts`], a watcher. Counted is the item of each
+//! sender whose move was carried out, once for the move, where one of its receivers, an item, took such a number of it. [`TallyText`] prints what was counted in
+//! a line for each item, as `zones 2 CREDIT`.
+//!
+//! What is promised: what becomes of a record is what a run makes of it (`converts`, `stops`), and what is counted of it is what `BecomesCounting` of
+//! specs/Counted.antt says, and nothing of a record that stops (`counts`, `none`). It takes no memory.
+//!
 //! # Where it is proved
 //!
 //! The clauses of `each`: it carries out the moves of statements one single move after another, hands each to a `Watcher`, and does in all what
 //! `Moves::apply` says, in the very clause (`Applied`); what was handed out are the single moves in order up to the first that stops, and the answer
 //! names that one and what it asked for; each is marked exactly where it took a number by any zones that is none by strict ones (`IsMark`). The clause
-//! of `walk_record`: it makes of a record what a run makes (`Becomes`, `StopsAt`), each single move handed out. What is printed is shown by rows. Of
+//! of `walk_record`: it makes of a record what a run makes (`Becomes`, `StopsAt`), each single move handed out, and its watcher counts what is counted of the record
+//! (`BecomesCounting`); and of `Counting::convert`, likewise. What is printed is shown by rows. Of
 //! `Told::of`, inside: which bytes of an entry are told, all or those at both ends, and how many they are (`AreToldOf`). Its words are shown by rows.
 #![tactic(auto)]
 
