@@ -4,6 +4,7 @@ pub mod LawLemmas
 pub mod CountedLemmas
 pub mod CountingLemmas
 pub mod CounterLemmas
+pub mod MadeLemmas
 pub mod WalkLemmas
 pub mod ReadLemmas
 pub mod FlowingLemmas

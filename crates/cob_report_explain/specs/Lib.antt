@@ -2,6 +2,7 @@ pub mod Anyhow
 pub mod Counted
 pub mod Each
 pub mod Counting
+pub mod CountedLaws
 pub mod Seen
 pub mod Room
 pub mod Told
