@@ -60,13 +60,17 @@ pub record IsSettable (output : Forest Resolved) (o : Operand) (c : PlainValue) 
   pub allowed : IsAllowed (LiteralOf c) o.kind
   pub taken : TakesIn (entry_in o.entry.node output) c
 
+-- the move of the first value of a condition-name to its item
+abbrev pub set_move : ValuedOperand → Move
+set_move v = record { sender = Literal (value_set v.first); receivers = v.operand ∷ [] }
+
 -- SET of a reference means the move of the first value of the condition-name to its item, which stands in the output record.
 pub record IsSet (r : Records) (values : List (Bearer ValuedEntry)) (w : WrittenReference) (m : Move) : Type 0 where
   pub valued : ValuedOperand
   pub named : NamesValues (all_of r) values w valued
   pub stands : valued.side ≡ Out
   pub takes : IsSettable r.output valued.operand (value_set valued.first)
-  pub is : m ≡ record { sender = Literal (value_set valued.first); receivers = valued.operand ∷ [] }
+  pub is : m ≡ set_move valued
 
 -- ---- INITIALIZE
 
@@ -79,13 +83,17 @@ filling_moved filling.Zeros = Figure Zero
 abbrev pub filling_move : Forest Resolved → Operand → Filling → Move
 filling_move output o f = record { sender = Literal (filling_moved f); receivers = filled f output o }
 
+-- MOVE SPACE to the items of an operand that show no number, and then MOVE ZERO to those that do
+abbrev pub filling_moves : Forest Resolved → Operand → List Move
+filling_moves output o = filling_move output o filling.Spaces ∷ filling_move output o filling.Zeros ∷ []
+
 -- INITIALIZE of a reference to an entry of the output record means MOVE SPACE to its items that show no number, and then MOVE ZERO to those that do. These are
 -- different bytes, so it is as if each was moved to in its turn. No table below it varies.
 pub record IsInitialized (r : Records) (w : WrittenReference) (ms : List Move) : Type 0 where
   pub operand : Operand
   pub named : NamesOperand (all_of r) w Out operand
   pub fixed : varies (entries_below operand.entry.node r.output) ≡ false
-  pub is : ms ≡ filling_move r.output operand filling.Spaces ∷ filling_move r.output operand filling.Zeros ∷ []
+  pub is : ms ≡ filling_moves r.output operand
 
 -- ---- both
 

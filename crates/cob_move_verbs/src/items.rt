@@ -2,8 +2,8 @@
 
 ghost use Rattle.std.specs.Prelude.{◌≡◌, ◌++◌, ◌∷◌, [], IfNone, IfOk, IfSome, OnOk, Some, None};
 ghost use Rattle.cob_copybook_tree.specs.Nodes.{forest, node, tree_of};
-ghost use Rattle.cob_copybook_tree.specs.declared.node.Node.TheViews.{out-Node};
 ghost use Rattle.cob_move_verbs.specs.Items.{element_of, entry_in, fills, items_among, items_below, items_of, own_item};
+ghost use Rattle.cob_layout_places.specs.Parts.{varies};
 ghost use Rattle.cob_move_verbs.specs.Reading.{AddsItems};
 
 use cob_copybook_tree::{Item, Kind, Node};
@@ -69,13 +69,16 @@ fn list_item(
     list: &mut Vec<Ref>,
 ) -> Result<(), AllocError>
     ensures { OnOk result (AddsItems layout.now
-        (own_item filling (out-Node entry.now).name item.now (out-Node entry.now).number subscripts.now)
+        (own_item filling (node entry.now).top.name item.now (node entry.now).top.number subscripts.now)
         list.old.items list.new.items) }
 {
-    match &entry.name {
-        Some(_) if fills(filling, item) => push_element(layout, entry.number, subscripts, list),
-        _ => Ok(()),
+    let Some(_) = &entry.name else {
+        return Ok(());
+    };
+    if !fills(filling, item) {
+        return Ok(());
     }
+    push_element(layout, entry.number, subscripts, list)
 }
 
 /// Subscripts, and one more behind them.
@@ -142,7 +145,8 @@ fn list_elements(
     if !is_table(entry.occurs) {
         return list_element(alloc, layout, filling, entry, subscripts, list);
     }
-    for before in 0..entry.occurs.most() {
+    let most = entry.occurs.most();
+    for before in 0..most {
         let inner = with_subscript(alloc, subscripts, before + 1)?;
         list_element(alloc, layout, filling, entry, inner.as_slice(), list)?;
     }

@@ -1,0 +1,4 @@
+mod ItemLemmas
+mod OneLemmas
+mod NoRuleLemmas
+mod MoveLemmas
