@@ -10,7 +10,11 @@ use Rattle.cob_copybook_clauses.specs.Written.{WrittenValue, Word, Quoted, Figur
 use Rattle.cob_copybook_clauses.proofs.OneLemmas.{qualifiers_cut, constant_cut}
 use Rattle.cob_move_statements.specs.Written.{WrittenReference, WrittenSender, SentReference, SentConstant, WrittenAction, MoveTo, MoveCorresponding, WrittenStatement, word_texts}
 use Rattle.cob_move_statements.specs.Statements.{AreSubscripts, EndsReferences, FitsReference, FitsSubscripts, FollowsStatements, IsAction, IsEndedStatement, IsHeading, IsNumeral, IsReference, IsStatement, IsWrittenSender, NoName, Several}
-use Rattle.cob_move_statements.specs.Laws.{OneListOfEnded, OneListOfStatements, OneReference}
+use Rattle.cob_move_statements.specs.Laws.{OneListOfEnded, OneListOfReferences, OneListOfStatements, OneReference}
+use Rattle.cob_move_loops.specs.declared.parts.Verb.{Verb}
+use Rattle.cob_move_loops.specs.declared.parts.Verb.TheVariants as verb
+use Rattle.cob_copybook_clauses.proofs.TableLemmas.{name_plain}
+use Rattle.cob_move_statements.specs.Verbs.{IsVerbEnd}
 use Rattle.cob_move_statements.proofs.Runs.{IsRun, fits}
 use Rattle.cob_move_statements.proofs.PartLemmas.{never_fit, part_fits, part_not_of, part_one}
 use Rattle.cob_move_statements.proofs.ReferenceLemmas.{brackets, not_of, reference_split, same_reference, references_run}
@@ -172,3 +176,19 @@ one_list_of_statements ws a b p q =
     let bodies : p.body ≡ q.body = body_one p.heading q.heading p.body q.body p.named q.named (no_name ws a p) (no_name ws b q) (sym p.words ∙ q.words) in
     let same : p.body ++ [] ≡ q.body ++ [] = append-nil p.body ∙ bodies ∙ sym (append-nil q.body) in
     (run_one IsEndedStatement FollowsStatements (λ (t : List Lexeme). t ≡ []) statements_run ended_one a b p.body q.body [] [] p.statements q.statements refl refl same).0
+
+-- ---- SET and INITIALIZE
+
+-- what stands behind their references may follow the last of several
+pub ends_references : (v : Verb) (end : List Lexeme) → IsVerbEnd v end → EndsReferences end
+ends_references verb.Set end (to, holds, is, word, e) = subst EndsReferences (sym e) (
+  λ named. let never : term.To ≡ term.Plain = sym is ∙ name_plain to named in cc,
+  λ of. let never : term.To ≡ term.Of = sym is ∙ of in cc,
+  λ opens. let never : term.To ≡ term.OpenBracket = sym is ∙ opens in cc,
+)
+ends_references verb.Initialize end e = subst EndsReferences (sym e) (tt, tt, tt)
+
+pub one_list_of_references : OneListOfReferences
+one_list_of_references v ws a b p q =
+    (run_one IsReference FitsReference EndsReferences references_run reference_one a b p.names q.names p.end q.end p.references q.references
+    (ends_references v p.end p.ends) (ends_references v q.end q.ends) (sym p.words ∙ q.words)).0

@@ -11,10 +11,7 @@ use Rattle.cob_move_statements.specs.Statements.{IsReference, Several}
 
 -- TO TRUE
 abbrev pub IsToTrue : List Lexeme → Type 0
-IsToTrue [] = ⊥
-IsToTrue (to ∷ []) = ⊥
-IsToTrue (to ∷ holds ∷ []) = (word_class to ≡ term.To) × IsWord (codes "TRUE") holds
-IsToTrue (to ∷ holds ∷ w ∷ ws) = ⊥
+IsToTrue ws = (to holds : Lexeme) × (word_class to ≡ term.To) × IsWord (codes "TRUE") holds × (ws ≡ to ∷ holds ∷ [])
 
 -- what stands behind the references: TO TRUE behind those of SET, nothing behind those of INITIALIZE
 abbrev pub IsVerbEnd : Verb → List Lexeme → Type 0

@@ -1,36 +1,51 @@
 //! The words behind SET and INITIALIZE.
 
-ghost use Rattle.std.specs.Prelude.{◌≡◌, ◌↔◌, List, IfNone, IfOk, IfSome, IsTrue};
-ghost use Rattle.cob_source.specs.Tokens.{lexemes};
+ghost use Rattle.std.specs.Prelude.{◌≡◌, ◌∷◌, List, IfNone, IfOk, IfSome, IsTrue, codes};
+ghost use Rattle.cob_copybook_clauses.specs.Clauses.{IsWord};
+ghost use Rattle.cob_copybook_clauses.specs.Reading.{Leaves};
+ghost use Rattle.cob_source.specs.Tokens.{Lexeme, lexemes};
 ghost use Rattle.cob_move_statements.specs.Verbs.{IsToTrue, IsVerbEnd, IsVerbSpelled};
 ghost use Rattle.cob_move_statements.specs.Written.{WrittenReference, written_references};
 
 use crate::parts::Reference;
 use crate::references::references_at;
-use cob_copybook_clauses::{WordClass, is_term};
+use cob_copybook_clauses::{WordClass, behind};
 use cob_move_loops::{Verb, is_that_word};
 use cob_source::Token;
 use std::alloc::{AllocError, Global};
 
+/// The words behind TRUE, if it comes first.
+fn behind_true(words: &[Token]) -> Option<&[Token]>
+    ensures found { IfSome result (λ r. (w : Lexeme) × IsWord (codes "TRUE") w
+        × (lexemes words.now ≡ w ∷ lexemes r.now)) }
+    ensures only { (w : Lexeme) (more : List Lexeme) → IsWord (codes "TRUE") w
+        → lexemes words.now ≡ w ∷ more → Leaves result more }
+{
+    let (first, more) = words.split_first()?;
+    if !is_that_word(first, b"TRUE") {
+        return None;
+    }
+    Some(more)
+}
+
 /// Whether words are TO TRUE.
 fn is_to_true(words: &[Token]) -> bool
-    ensures { IsTrue result ↔ IsToTrue (lexemes words.now) }
+    ensures yes { IsTrue result → IsToTrue (lexemes words.now) }
+    ensures must { IsToTrue (lexemes words.now) → IsTrue result }
 {
-    let Some((first, behind)) = words.split_first() else {
+    let Some(behind_to) = behind(words, WordClass::To) else {
         return false;
     };
-    let Some((last, more)) = behind.split_first() else {
+    let Some(more) = behind_true(behind_to) else {
         return false;
     };
-    if !more.is_empty() {
-        return false;
-    }
-    is_term(first, WordClass::To) && is_that_word(last, b"TRUE")
+    more.is_empty()
 }
 
 /// Whether words may stand behind the references of a verb.
 fn is_verb_end(verb: Verb, words: &[Token]) -> bool
-    ensures { IsTrue result ↔ IsVerbEnd verb (lexemes words.now) }
+    ensures yes { IsTrue result → IsVerbEnd verb (lexemes words.now) }
+    ensures must { IsVerbEnd verb (lexemes words.now) → IsTrue result }
 {
     match verb {
         Verb::Set => is_to_true(words),
@@ -54,7 +69,10 @@ pub fn verb_references(
         → IsVerbSpelled verb rs (lexemes words.now) → ⊥)) }
 {
     let (references, end) = references_at(alloc, words)?;
-    if references.is_empty() || !is_verb_end(verb, end) {
+    if references.is_empty() {
+        return Ok(None);
+    }
+    if !is_verb_end(verb, end) {
         return Ok(None);
     }
     Ok(Some(references))
