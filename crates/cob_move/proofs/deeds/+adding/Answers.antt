@@ -15,7 +15,7 @@ use Rattle.cob_source.specs.Tokens.{lexemes}
 use Rattle.cob_move_loops.specs.declared.front.PassageItem.{PassageItem}
 use Rattle.cob_move_loops.specs.Reading.{counters, item_front, written_bound, written_choice, written_loop, written_test}
 use Rattle.cob_move_loops.specs.declared.parts.BranchTest.{BranchTest}
-use Rattle.cob_move_loops.specs.Passages.{ARun, Branched, Otherwise, PassageFront, Tested, WrittenTest, kind_of}
+use Rattle.cob_move_loops.specs.Passages.{ARun, Branched, Otherwise, PassageFront, Tested, WrittenTest, kind_of, Worded}
 use Rattle.cob_move_loops.specs.Turns.{Counted, counter_at, in_turn}
 use Rattle.cob_move_deeds.specs.declared.flow.Bound.{Bound}
 use Rattle.cob_move_deeds.specs.declared.flow.Flow.{Flow}
@@ -25,7 +25,7 @@ use Rattle.cob_move_loops.proofs.FrontLemmas.{front_size, front_smaller}
 use Rattle.cob_move_loops.proofs.PassageLemmas.{none_left, shorter, some_left}
 use Rattle.cob_move_loops.proofs.WritingLemmas.{counters_more}
 use Rattle.cob_move.specs.declared.made.BranchFlows.{BranchFlows}
-use Rattle.cob_move.specs.DeedsRead.{AddsBranch, AddsBranches, AddsDeeds, AddsFront, AddsMoved, AddsTurns, BranchesRefused, FrontHasBounds, FrontRefused, HasGrown, HaveBounds, IsFrontRead, IsMade, IsWaiting, LeavesFront, LeftOfBranches, LoopRefused, MadeLists, MovedRefused, ReadsApart, ReadsTurns, TurnRefused, closed, flow_lists, in_its_turn, linked_branches, linked_turns, made_lists, open_statements, TakenBranch, taken_branch, taken_branches, TestNotRead, with_asked, with_one_more, without_flows}
+use Rattle.cob_move.specs.DeedsRead.{AddsBranch, AddsBranches, AddsDeeds, AddsFront, AddsMoved, AddsTurns, BranchesRefused, FrontHasBounds, FrontRefused, HasGrown, HaveBounds, IsFrontRead, IsMade, IsWaiting, LeavesFront, LeftOfBranches, LoopRefused, MadeLists, MovedRefused, ReadsApart, ReadsTurns, TurnRefused, closed, flow_lists, in_its_turn, linked_branches, linked_turns, made_lists, open_statements, TakenBranch, taken_branch, taken_branches, TestNotRead, with_asked, with_one_more, without_flows, AddsVerbed, VerbRefused}
 use Rattle.cob_move_tests.specs.Entries.{records_of, valued_in}
 use Rattle.cob_move.proofs.AskedLemmas.{against_front, or_tested_front, waiting_front, waiting_means}
 use Rattle.cob_move.proofs.ChoiceLemmas.{HasReadChoice, asked_grown, asked_made, apart_kept, begun, begun_grown, begun_made, branch_kept, choice_adds, choice_has_grown, choice_is_made, choice_not_read, choice_same, closed_asked, closed_branches, count_not_read, in_front_by, leaves_asked, left_begin, left_end, left_other, left_other_refused, left_statements_refused, left_taken, left_test_refused, left_waits, subject_not_read}
@@ -520,6 +520,25 @@ add_item-returns-in-Run-clause-fault t c =
     let old = made_lists c.args.made.now in
     subst (λ (f : PassageFront). IfErr c.add_moves.result (λ n. FrontRefused n e ns f old)) (sym (ap item_front c.in-Run.is))
     (IfErr-weaker c.add_moves.result (λ n. MovedRefused n e ns words old) (λ n. FrontRefused n e ns (ARun words) old) (λ n r p within. r) c.add_moves.ensures.fault)
+
+pub add_item-returns-in-Verb-clause-added : goal.add_item-returns-in-Verb-clause-added
+add_item-returns-in-Verb-clause-added t c =
+    let e = c.args.entries.now in
+    let ns = counters c.args.turn.now in
+    let words = lexemes c.in-Verb.words.now in
+    let old = made_lists c.args.made.now in
+    let new = made_lists c.add_verb.new.made in
+    subst (λ (f : PassageFront). OnOk c.add_verb.result (AddsFront e ns f old new)) (sym (ap item_front c.in-Verb.is))
+    (IfOk-weaker c.add_verb.result (λ _. AddsVerbed e ns c.in-Verb.verb words old new) (λ _. AddsFront e ns (Worded c.in-Verb.line c.in-Verb.verb words) old new) (λ _ a p within. a) c.add_verb.ensures.added)
+
+pub add_item-returns-in-Verb-clause-fault : goal.add_item-returns-in-Verb-clause-fault
+add_item-returns-in-Verb-clause-fault t c =
+    let e = c.args.entries.now in
+    let ns = counters c.args.turn.now in
+    let words = lexemes c.in-Verb.words.now in
+    let old = made_lists c.args.made.now in
+    subst (λ (f : PassageFront). IfErr c.add_verb.result (λ n. FrontRefused n e ns f old)) (sym (ap item_front c.in-Verb.is))
+    (IfErr-weaker c.add_verb.result (λ n. VerbRefused n e ns c.in-Verb.line c.in-Verb.verb words old) (λ n. FrontRefused n e ns (Worded c.in-Verb.line c.in-Verb.verb words) old) (λ n r p within. r) c.add_verb.ensures.fault)
 
 pub add_item-returns-in-Number-clause-fault : goal.add_item-returns-in-Number-clause-fault
 add_item-returns-in-Number-clause-fault t c =
