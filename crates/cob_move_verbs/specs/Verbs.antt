@@ -47,7 +47,7 @@ value_set (FromTo v w) = v
 -- An item is set by the rules of VALUE, and where those of MOVE differ it isn't: one that is edited, JUSTIFIED or BLANK WHEN ZERO.
 abbrev pub may_be_set : Kind → Bool
 may_be_set Group = true
-may_be_set (ItemKind i) = not i.justified && (not i.blank && not (is_edited i.picture.category))
+may_be_set (ItemKind i) = (not i.justified && not i.blank) && not (is_edited i.picture.category)
 
 -- the entry takes the value as its VALUE: a number one that it holds, other items and groups characters that are no longer
 abbrev pub TakesIn : Option (Tree Resolved) → PlainValue → Type 0
