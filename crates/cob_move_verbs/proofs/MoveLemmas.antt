@@ -58,8 +58,15 @@ set_means r values w entry v c m named stands at value taken is = record {
 pub set_refused : (rule_is : MoveRule) (r : Records) (values : List (Bearer ValuedEntry)) (w : WrittenReference) (entry : Ref) (v : ValuedOperand) (c : PlainValue) → NamesValues (all_of r) values w v → v.side ≡ Out
     → v.operand ≡ operand_in r.output entry → c ≡ value_set v.first → BreaksTaking rule_is r.output entry.node (operand_in r.output entry).kind c → BreaksSet rule_is r values w
 set_refused rule_is r values w entry v c named stands at value broken =
-    inr (inr (v, named, inr (stands, subst (λ (o : Operand). BreaksTaking rule_is r.output o.entry.node o.kind (value_set v.first)) (sym at)
-    (subst (λ (x : PlainValue). BreaksTaking rule_is r.output entry.node (operand_in r.output entry).kind x) value broken))))
+    inr (inr (
+      v,
+      named,
+      inr (
+        stands,
+        subst (λ (o : Operand). BreaksTaking rule_is r.output o.entry.node o.kind (value_set v.first)) (sym at)
+            (subst (λ (x : PlainValue). BreaksTaking rule_is r.output entry.node (operand_in r.output entry).kind x) value broken),
+      ),
+    ))
 
 -- ---- INITIALIZE
 

@@ -110,7 +110,8 @@ fn valued_receiver<'a>(
     ensures fault { IfErr result (λ r. BreaksSet r (records_of entries.now) (valued_in entries.now)
         (written_reference reference.now)) }
 {
-    let Some(valued) = entries.values(reference)? else {
+    let found = entries.values(reference)?;
+    let Some(valued) = found else {
         return Err(MoveRule::Unknown);
     };
     match valued.item.side {
@@ -139,12 +140,8 @@ pub(crate) fn set_move(
     let valued = valued_receiver(entries, reference)?;
     let value = value_set(valued.first);
     let entry = valued.item.entry;
-    judge_value(
-        entries.output.root(),
-        entry.node,
-        entries.kind(Side::Out, &entry).get(),
-        value,
-    )?;
+    let kind = entries.kind(Side::Out, &entry);
+    judge_value(entries.output.root(), entry.node, kind.get(), value)?;
     let mut receivers = Vec::with_capacity(alloc, 1)?;
     receivers.push(entry)?;
     Ok(Move {
