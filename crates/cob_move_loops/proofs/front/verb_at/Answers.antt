@@ -18,7 +18,7 @@ returns-clause-found c =
         w,
         stops,
         is ∙ ap (λ (k : PassageWord). Some k) c.verb_word.ensures,
-        c.first_line.ensures ∙ ap first_line e,
+        c.first_line-line.ensures ∙ ap first_line e,
         c.item_words_at.ensures.are,
         are,
         subst NoItemWord f c.item_words_at.ensures.ends,
@@ -31,5 +31,5 @@ pub returns-clause-only : goal.returns-clause-only
 returns-clause-only c = λ line own more ((begins, stops, word, at, items, are, ends, e), none).
     let first = c.in_ok-rest.ensures.only begins (own ++ (stops ++ more)) (word ∙ ap (λ (k : PassageWord). Some k) (sym c.verb_word.ensures)) e in
     let cut = items_one own (lexemes c.item_words_at.result.0.now) (stops ++ more) (lexemes c.item_words_at.result.1.now) items c.item_words_at.ensures.are ends c.item_words_at.ensures.ends (sym first ∙ c.item_words_at.ensures.found) in
-    let lines : c.first_line.result ≡ line = c.first_line.ensures ∙ ap first_line e ∙ sym at in
+    let lines : c.first_line-line.result ≡ line = c.first_line-line.ensures ∙ ap first_line e ∙ sym at in
     (λ i. Worded (lines i) c.args.verb (sym cut.0 i), c.behind_stops.ensures.only stops more are none (sym cut.1))
