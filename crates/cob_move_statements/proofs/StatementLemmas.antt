@@ -1,7 +1,8 @@
 -- Senders, and what stands behind MOVE.
 use Rattle.std.proofs.Common.{◌≡◌, ◌≢◌, List, [], ◌∷◌, ◌++◌, sym, ap, subst, ◌∙◌, append_assoc, Some, arith, length, ◌<◌}
 use Rattle.std.specs.Prelude.{Bool, true, false, ◌==◌}
-use Rattle.cob_source.specs.Tokens.{Lexeme}
+use Rattle.cob_source.specs.declared.token.Token.{Token}
+use Rattle.cob_source.specs.Tokens.{Lexeme, lexeme, lexemes}
 use Rattle.cob_copybook_clauses.specs.declared.term.WordClass.{WordClass}
 use Rattle.cob_copybook_clauses.specs.declared.term.WordClass.TheVariants as term
 use Rattle.cob_copybook_clauses.specs.Terms.{word_class, term_of_kind}
@@ -47,6 +48,11 @@ written_some (r ∷ rs) b e is = omega arith
 pub written_none : (rs : List Reference) (b : Bool) → b ≡ (length rs == 0) → b ≡ true → (us : List WrittenReference) → written_references rs ≡ us → 0 < length us → ⊥
 written_none [] b e is us same some = let none : length us ≡ 0 = ap length (sym same) in absurd (omega (arith, none, some))
 written_none (r ∷ rs) b e is us same some = absurd (grind (arith, e, is))
+
+-- where no word is left, none is
+pub is_left_none : (ws : List Token) (b : Bool) → b ≡ (length ws == 0) → lexemes ws ≡ [] → b ≡ true
+is_left_none [] b e none = e
+is_left_none (w ∷ ws) b e none = absurd (let never : lexeme w ∷ lexemes ws ≡ [] = none in cc)
 
 -- ---- CORRESPONDING comes first in no sender
 
