@@ -1,6 +1,6 @@
 -- What an item receives has its size.
 use Rattle.std.proofs.Common.{◌≡◌, ℕ, ◌+◌, ◌-◌, ◌<◌, ◌≤◌, Bool, true, false, not, ◌&&◌, zero, suc, List, [], ◌∷◌, ◌++◌, length, take, drop, get_or, replicate, Option, Some, None, refl, sym, ap, subst, ◌∙◌, arith, inl, inr, length-append}
-use Rattle.std.specs.Prelude.{MatchBool, count_by, cond, ℤ}
+use Rattle.std.specs.Prelude.{MatchBool, count_by, cond, ℤ, ◌-ℤ◌}
 use Rattle.std.specs.List.{flat_map}
 use Rattle.std.proofs.lemmas.List.{drop_more, drop_all, get_or-drop, length-drop, length-replicate}
 use Rattle.std.proofs.lemmas.List.Sums.{sum_by-cons}
@@ -15,6 +15,10 @@ use Rattle.cob_picture.specs.declared.category.Category.{Category}
 use Rattle.cob_picture.specs.declared.category.Category.TheVariants.{Alphabetic, Numeric, Alphanumeric, AlphanumericEdited, NumericEdited}
 use Rattle.cob_picture.proofs.Placed.{length_placed}
 use Rattle.cob_picture.proofs.Limits.{one_byte_each}
+use Rattle.byteorder.specs.Numbers.{length-bytes_high_first}
+use Rattle.cob_decimal.specs.Decimal.{number_of, shifted}
+use Rattle.cob_codec.specs.Binary.{binary_length}
+use Rattle.cob_codec.specs.Native.{HoldsNative, low_number}
 use Rattle.cob_codec.proofs.ZonedLaws as zoned
 use Rattle.cob_codec.proofs.SeparateLaws as separate
 use Rattle.cob_codec.proofs.PackedLaws as packed
@@ -32,9 +36,9 @@ use Rattle.cob_copybook_tree.specs.declared.node.Kind.TheVariants.{Group, Item a
 use Rattle.cob_copybook_tree.specs.Lengths.{item_size}
 use Rattle.cob_copybook_tree.specs.Resolving.{is_number, is_numeric}
 use Rattle.cob_copybook_tree.specs.declared.kinds.StorageKind.{StorageKind}
-use Rattle.cob_copybook_tree.specs.declared.kinds.StorageKind.TheVariants.{Zoned, Separate, Packed, Binary}
-use Rattle.cob_copybook_tree.specs.Items.{IsNumberItem, storage_kind, stored_form}
-use Rattle.cob_copybook_tree.specs.Storage.{is_leading, size_as, written_as}
+use Rattle.cob_copybook_tree.specs.declared.kinds.StorageKind.TheVariants.{Zoned, Separate, Packed, Binary, Native}
+use Rattle.cob_copybook_tree.specs.Items.{HoldsNumber, IsNumberItem, storage_kind, stored_form}
+use Rattle.cob_copybook_tree.specs.Storage.{is_leading, is_native, size_as, written_as}
 use Rattle.cob_copybook_tree.proofs.ItemLemmas.{sizes}
 use Rattle.cob_copybook_tree.proofs.PictureLemmas.{digits_are_bytes}
 use Rattle.cob_move_receive.specs.Sent.{Amount, Entry}
@@ -43,6 +47,7 @@ use Rattle.cob_move_receive.specs.Numbers.{HoldsAligned, HoldsAmount}
 use Rattle.cob_move_receive.specs.Received.{GetsCharacters, GetsNumber, ItemGets}
 use Rattle.cob_cp037.specs.Named.{space_byte}
 use Rattle.cob_back_moves.specs.Laws.{IsSoundItem, ItemsFill}
+use Rattle.cob_back_moves.proofs.NativeLemmas.{native_size}
 use Rattle.cob_back_moves.proofs.NumberLemmas.{of_number, of_other}
 use Rattle.cob_back_moves.proofs.TextLemmas.{length-padded}
 
@@ -54,6 +59,7 @@ stored_has Zoned leading p negative ds e = zoned.stored_length (signed p.positio
 stored_has Separate leading p negative ds e = separate.stored_length (digits p.positions) leading negative ds e
 stored_has Packed leading p negative ds e = packed.stored_length (digits p.positions) (signed p.positions) negative ds e
 stored_has Binary leading p negative ds e = binary.stored_length (digits p.positions) negative ds
+stored_has Native leading p negative ds e = length-bytes_high_first (binary_length (digits p.positions)) (low_number (binary_length (digits p.positions)) negative (number_of ds))
 
 fills_number : (i : Item) (v : Amount) (bytes : List ℕ) → IsSoundItem i → IsNumberItem i → HoldsAligned i v bytes → length bytes ≡ item_size i
 fills_number i v bytes sound number h =
@@ -109,11 +115,23 @@ fills_edited i negative sent from bytes sound e h =
     length_text (places i.picture.positions) i.blank h.minus h.kept bytes h.text
     ∙ ap (λ (ps : List Position). bytes_of (places ps)) at ∙ bytes_same i.picture.category symbols ∙ ap size (sym at) ∙ sym own
 
+fills_kept : (i : Item) (v : Amount) (bytes : List ℕ) → IsSoundItem i → IsNumberItem i → HoldsNumber i v.negative v.digits v.scale bytes → length bytes ≡ item_size i
+fills_kept i v bytes sound number holds = at (is_native (storage_kind i)) refl holds
+  where
+    at : (b : Bool) → is_native (storage_kind i) ≡ b
+        → MatchBool b (HoldsNative (digits i.picture.positions) (scale i.picture.positions) (v.negative && signed i.picture.positions) (number_of v.digits) v.scale bytes) (HoldsAligned i v bytes)
+        → length bytes ≡ item_size i
+    at true e h =
+        ap length h ∙ length-bytes_high_first (binary_length (digits i.picture.positions)) (low_number (binary_length (digits i.picture.positions)) (v.negative && signed i.picture.positions)
+        (shifted (number_of v.digits) (scale i.picture.positions -ℤ v.scale)))
+        ∙ sym (native_size (storage_kind i) i.picture e)
+    at false e h = fills_number i v bytes sound number h
+
 fills_amount : (i : Item) (v : Amount) (bytes : List ℕ) → IsSoundItem i → HoldsAmount i v bytes → length bytes ≡ item_size i
 fills_amount i v bytes sound holds = at (is_number i) refl holds
   where
-    at : (b : Bool) → is_number i ≡ b → MatchBool b (HoldsAligned i v bytes) (IsEdited i.picture i.blank v.negative v.digits v.scale bytes) → length bytes ≡ item_size i
-    at true e h = fills_number i v bytes sound (of_number (is_number i) (IsNumberItem i) (item_size i ≡ size i.picture.positions) e sound.storable) h
+    at : (b : Bool) → is_number i ≡ b → MatchBool b (HoldsNumber i v.negative v.digits v.scale bytes) (IsEdited i.picture i.blank v.negative v.digits v.scale bytes) → length bytes ≡ item_size i
+    at true e h = fills_kept i v bytes sound (of_number (is_number i) (IsNumberItem i) (item_size i ≡ size i.picture.positions) e sound.storable) h
     at false e h = fills_edited i v.negative v.digits v.scale bytes sound e h
 
 -- ---- characters

@@ -1,5 +1,6 @@
 pub mod RunLemmas
 pub mod SameLemmas
+pub mod NativeLemmas
 pub mod NumberLemmas
 pub mod TextLemmas
 pub mod ReturnLaw

@@ -24,9 +24,9 @@ pub(crate) fn is_read_pictured(reading: Reading, kind: &Kind) -> bool
         Kind::Group => true,
         Kind::Item(item) => match reading {
             Reading::Pictured => true,
-            Reading::Whole => !item.storage_kind().is_read_whole(),
-            Reading::AnyZones => item.storage_kind().is_read_whole(),
-            Reading::WholeAnyZones => false,
+            Reading::Whole => item.storage_kind().is_read_strictly(Reading::Whole),
+            Reading::AnyZones => item.storage_kind().is_read_strictly(Reading::AnyZones),
+            Reading::WholeAnyZones => item.storage_kind().is_read_strictly(Reading::WholeAnyZones),
         },
     }
 }

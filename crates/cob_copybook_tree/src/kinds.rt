@@ -12,13 +12,13 @@ ghost use Rattle.cob_decimal.specs.Answers.{AnswersNumber};
 ghost use Rattle.cob_picture.specs.Counts.{digits, scale, signed};
 ghost use Rattle.cob_copybook_tree.specs.Items.{storage_kind, HoldsAligned, HoldsNumber, IsFlawOf, IsNumberItem, IsSentBy, Represents, given_digits, stored_form};
 ghost use Rattle.cob_copybook_tree.specs.Lengths.{item_size};
-ghost use Rattle.cob_copybook_tree.specs.Storage.{digits_as, is_leading, is_native, is_read_whole, is_separate, is_zoned, number_words, storage_kind_by, storage_word, stored_size, AllowsPicture, IsNarrow, TakesPicture};
+ghost use Rattle.cob_copybook_tree.specs.Storage.{digits_as, is_leading, is_native, is_read_whole, is_separate, is_zoned, number_words, reads_strictly, storage_kind_by, storage_word, stored_size, AllowsPicture, IsNarrow, TakesPicture};
 ghost use Rattle.cob_copybook_tree.specs.declared.kinds.StorageKind.TheVariants as kind;
 
 use crate::Item;
 use crate::resolving::is_number;
 use cob_codec::{
-    Binary, Flaw, Native, NumberFlaw, Packed, Separate, Storage, Zoned, packed_flaw, separate_flaw,
+    Binary, Flaw, Native, NumberFlaw, Packed, Reading, Separate, Storage, Zoned, packed_flaw, separate_flaw,
     zoned_flaw,
 };
 use cob_copybook_entry::{Sign, Usage};
@@ -154,6 +154,19 @@ impl StorageKind {
         match self {
             StorageKind::Zoned | StorageKind::Separate | StorageKind::Packed => true,
             StorageKind::Binary | StorageKind::Native => is_narrow(picture),
+        }
+    }
+
+    /// Whether bytes of it represent what they do as their picture says, and nothing else, where they are read so.
+    pub fn is_read_strictly(self, reading: Reading) -> bool
+        ensures { result ≡ reads_strictly reading self }
+    {
+        match self {
+            StorageKind::Zoned => !reading.takes_any_zones(),
+            StorageKind::Separate => !reading.takes_any_zones(),
+            StorageKind::Packed => !reading.takes_any_zones(),
+            StorageKind::Binary => !reading.is_whole(),
+            StorageKind::Native => true,
         }
     }
 
