@@ -4,10 +4,11 @@ use Rattle.std.specs.Bool.{Decides}
 use Rattle.std.specs.Prelude.{ℤ, pos, ◌-ℤ◌, ◌≤ℤ◌, ◌<ℤ◌}
 use Rattle.std.proofs.lemmas.Int.{ints}
 use Rattle.cob_decimal.specs.Decimal.{IsDigits}
-use Rattle.cob_picture.specs.Counts.{digits, scale}
+use Rattle.cob_picture.specs.Counts.{scale}
 use Rattle.cob_picture.specs.Positions.{PlainPicture}
 use Rattle.cob_back_losses.specs.Given.{GivesDigit, GivesMinus, HasDigitAt, IsOfExtent, SomeDigit}
-use Rattle.cob_back_losses.specs.Losses.{IsBelowLast, IsBeyondFirst, last_power}
+use Rattle.cob_copybook_tree.specs.declared.node.Item.{Item}
+use Rattle.cob_back_losses.specs.Losses.{IsBelowLast, IsBeyondFirst, first_beyond, last_power}
 use Rattle.cob_back_losses.specs.declared.numbers.NumberExtent.{NumberExtent}
 
 -- so many nines
@@ -64,8 +65,8 @@ not_so P b is h = (λ e. absurd (cc), λ p. absurd (h p))
 -- ---- the numbers of an item
 
 -- some number of these has a digit before those of a picture
-pub longer_before : (e : NumberExtent) (p : PlainPicture) → 0 < e.digits → (pos (digits p.positions) -ℤ scale p.positions) <ℤ (pos e.digits -ℤ e.scale) → GivesDigit (IsOfExtent e) (IsBeyondFirst p)
-longer_before e p some longer = record {
+pub longer_before : (e : NumberExtent) (r : Item) → 0 < e.digits → first_beyond r <ℤ (pos e.digits -ℤ e.scale) → GivesDigit (IsOfExtent e) (IsBeyondFirst r)
+longer_before e r some longer = record {
   value = record { negative = false; digits = nines e.digits; scale = e.scale };
   given = nines_of_extent e false (λ h. absurd (search rules));
   stands = record {
@@ -76,8 +77,8 @@ longer_before e p some longer = record {
 }
 
 -- none has
-pub none_before : (e : NumberExtent) (p : PlainPicture) → (0 < e.digits → (pos e.digits -ℤ e.scale) ≤ℤ (pos (digits p.positions) -ℤ scale p.positions)) → GivesDigit (IsOfExtent e) (IsBeyondFirst p) → ⊥
-none_before e p short g =
+pub none_before : (e : NumberExtent) (r : Item) → (0 < e.digits → (pos e.digits -ℤ e.scale) ≤ℤ first_beyond r) → GivesDigit (IsOfExtent e) (IsBeyondFirst r) → ⊥
+none_before e r short g =
     let below = digit_below g.value.digits g.value.scale g.stands.power g.stands.digit in
     let above = digit_above g.value.digits g.value.scale g.stands.power g.stands.digit in
     let count = g.given.count in

@@ -15,7 +15,7 @@ use Rattle.cob_copybook_tree.specs.declared.node.Item.{Item}
 use Rattle.cob_copybook_tree.specs.Forests.{Forest, NoEntries, AnEntry, Tree}
 use Rattle.cob_copybook_tree.specs.Nodes.{Resolved}
 use Rattle.cob_copybook_tree.specs.declared.kinds.StorageKind.{StorageKind}
-use Rattle.cob_copybook_tree.specs.declared.kinds.StorageKind.TheVariants.{Zoned, Separate, Packed, Binary}
+use Rattle.cob_copybook_tree.specs.declared.kinds.StorageKind.TheVariants.{Zoned, Separate, Packed, Binary, Native}
 use Rattle.cob_copybook_tree.specs.Items.{IsNumberItem, storage_kind}
 use Rattle.cob_copybook_tree.specs.Lengths.{greatest_number, item_size}
 use Rattle.cob_copybook_tree.specs.Resolving.{is_number, is_numeric}
@@ -183,12 +183,14 @@ zoned_by Zoned leading p bs ds is z = z
 zoned_by Separate leading p bs ds is z = absurd (cc (is))
 zoned_by Packed leading p bs ds is z = absurd (cc (is))
 zoned_by Binary leading p bs ds is z = absurd (cc (is))
+zoned_by Native leading p bs ds is z = absurd (cc (is))
 
 size_by : (k : StorageKind) (p : PlainPicture) → is_zoned k ≡ true → stored_size k p ≡ size p.positions
 size_by Zoned p is = refl
 size_by Separate p is = absurd (cc (is))
 size_by Packed p is = absurd (cc (is))
 size_by Binary p is = absurd (cc (is))
+size_by Native p is = absurd (cc (is))
 
 record Plain (i : Item) : Type 0 where
   number : is_number i ≡ true
@@ -292,6 +294,7 @@ plain_is_number i is =
     takes Separate p is = absurd (cc (is))
     takes Packed p is = absurd (cc (is))
     takes Binary p is = absurd (cc (is))
+    takes Native p is = absurd (cc (is))
 
 -- ---- the law
 

@@ -2,14 +2,15 @@
 use Rattle.std.specs.Prelude.{◌≡◌, ◌≢◌, ◌⊎◌, ℕ, ◌+◌, ℤ, pos, ◌-ℤ◌, false, if◌then◌else◌, List, [], ◌∷◌, length, Option, Some, None, IsSomeAnd, IsTrue}
 use Rattle.cob_decimal.specs.Decimal.{IsDigits}
 use Rattle.cob_decimal.specs.Parts.{zeros_of}
-use Rattle.cob_picture.specs.Counts.{digits, scale, signed}
-use Rattle.cob_picture.specs.Positions.{PlainPicture, shows_number}
+use Rattle.cob_picture.specs.Counts.{scale, signed}
+use Rattle.cob_picture.specs.Positions.{shows_number}
 use Rattle.cob_picture.specs.declared.category.Category.{Category}
 use Rattle.cob_picture.specs.declared.category.Category.TheVariants.{Alphabetic, Numeric, Alphanumeric, AlphanumericEdited, NumericEdited}
 use Rattle.cob_copybook_entry.specs.Described.{PlainValue, Numeric as NumericLiteral, Quoted, Figure, Repeated}
 use Rattle.cob_copybook_tree.specs.declared.node.Kind.{Kind}
 use Rattle.cob_copybook_tree.specs.declared.node.Kind.TheVariants.{Group, Item as ItemKind}
 use Rattle.cob_copybook_tree.specs.declared.node.Item.{Item}
+use Rattle.cob_copybook_tree.specs.Items.{given_digits, number_digits}
 use Rattle.cob_copybook_tree.specs.Lengths.{item_size}
 use Rattle.cob_copybook_tree.specs.Nodes.{kind_shows_number}
 use Rattle.cob_copybook_tree.specs.Resolving.{is_number}
@@ -25,15 +26,15 @@ pub record IsOfExtent (e : NumberExtent) (v : Amount) : Type 0 where
   pub point : v.scale ≡ e.scale
   pub minus : IsTrue v.negative → IsTrue e.signed
 
--- the numbers of a picture that shows one
-abbrev pub picture_extent : PlainPicture → NumberExtent
-picture_extent p = record { digits = digits p.positions; scale = scale p.positions; signed = signed p.positions }
+-- the numbers that an item gives that shows one
+abbrev pub number_extent : Item → NumberExtent
+number_extent i = record { digits = given_digits i; scale = scale i.picture.positions; signed = signed i.picture.positions }
 
--- The numbers that an item of this category may give: those of its picture; of an alphanumeric one whole numbers of as many digits as it has
+-- The numbers that an item of this category may give: those of its picture or of its bytes; of an alphanumeric one whole numbers of as many digits as it has
 -- characters; of others none.
 abbrev pub extent_under : Category → Item → Option NumberExtent
-extent_under Numeric i = Some (picture_extent i.picture)
-extent_under NumericEdited i = Some (picture_extent i.picture)
+extent_under Numeric i = Some (number_extent i)
+extent_under NumericEdited i = Some (number_extent i)
 extent_under Alphanumeric i = Some (record { digits = item_size i; scale = pos 0; signed = false })
 extent_under Alphabetic i = None
 extent_under AlphanumericEdited i = None
@@ -74,7 +75,7 @@ pub record GivesMinus (gives : Amount → Type 0) : Type 0 where
 -- How many characters an entry of so many bytes gives to a receiver that is no number: an item that is a number its digits, with a zero for each P at
 -- the right; others their bytes.
 abbrev pub item_characters : Item → ℕ → ℕ
-item_characters i bytes = if is_number i then digits i.picture.positions + zeros_of (scale i.picture.positions) else bytes
+item_characters i bytes = if is_number i then number_digits i + zeros_of (scale i.picture.positions) else bytes
 
 -- how many characters an item of so many bytes gives to a receiver: none to one that takes its number
 abbrev pub characters_to : Item → ℕ → Kind → ℕ

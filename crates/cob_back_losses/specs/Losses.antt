@@ -1,6 +1,6 @@
 -- What a single move may lose.
 use Rattle.std.specs.Prelude.{◌<◌, ◌≤ℤ◌, ◌<ℤ◌, ◌-ℤ◌, ℕ, ℤ, pos, Bool, true, false, ◌||◌, List, count_by, if◌then◌else◌, IsTrue, IsFalse}
-use Rattle.cob_picture.specs.Counts.{digits, scale, signed}
+use Rattle.cob_picture.specs.Counts.{scale, signed}
 use Rattle.cob_picture.specs.Positions.{PlainPicture, shows_number}
 use Rattle.cob_picture.specs.declared.position.Position.{Position}
 use Rattle.cob_picture.specs.Counts.{is_character}
@@ -8,7 +8,9 @@ use Rattle.cob_copybook_entry.specs.Described.{PlainValue, Numeric as NumericLit
 use Rattle.cob_copybook_tree.specs.declared.node.Kind.{Kind}
 use Rattle.cob_copybook_tree.specs.declared.node.Kind.TheVariants.{Group, Item as ItemKind}
 use Rattle.cob_copybook_tree.specs.declared.node.Item.{Item}
+use Rattle.cob_copybook_tree.specs.Items.{kept_digits}
 use Rattle.cob_copybook_tree.specs.Resolving.{is_number}
+use Rattle.cob_back_moves.specs.Wider.{IsSameNative}
 use Rattle.cob_move_receive.specs.Characters.{has_insertions}
 use Rattle.cob_move_receive.specs.Table.{SenderKind, Entry, Literal}
 use Rattle.cob_back_losses.specs.Given.{GivesDigit, GivesMinus, MayGive, characters_of}
@@ -17,18 +19,29 @@ use Rattle.cob_back_losses.specs.Given.{GivesDigit, GivesMinus, MayGive, charact
 abbrev pub last_power : PlainPicture → ℤ
 last_power p = pos 0 -ℤ scale p.positions
 
--- the power of ten is greater than those of all digits of the picture
-abbrev pub IsBeyondFirst : PlainPicture → ℤ → Type 0
-IsBeyondFirst p power = (pos (digits p.positions) -ℤ scale p.positions) ≤ℤ power
+-- the first power of ten that is greater than those of all digits that an item keeps
+abbrev pub first_beyond : Item → ℤ
+first_beyond r = pos (kept_digits r) -ℤ scale r.picture.positions
+
+-- the power of ten is greater than those of all digits that the item keeps
+abbrev pub IsBeyondFirst : Item → ℤ → Type 0
+IsBeyondFirst r power = first_beyond r ≤ℤ power
 
 -- it is less than those of all digits of the picture
 abbrev pub IsBelowLast : PlainPicture → ℤ → Type 0
 IsBelowLast p power = power <ℤ last_power p
 
--- A digit before the point is lost: the receiver takes a number, and the sender may give one with a digit other than 0 before the receiver's first.
+-- a native item's number stays as it is in one that is alike
+abbrev pub StaysNative : SenderKind → Item → Type 0
+StaysNative (Entry Group) r = ⊥
+StaysNative (Entry (ItemKind i)) r = IsSameNative i r
+StaysNative (Literal c) r = ⊥
+
+-- A digit before the point is lost: the receiver takes a number, and the sender may give one with a digit other than 0 before those that the receiver
+-- keeps.
 abbrev pub LosesBefore : SenderKind → Kind → Type 0
 LosesBefore s Group = ⊥
-LosesBefore s (ItemKind r) = IsTrue (shows_number r.picture.category) × GivesDigit (MayGive s) (IsBeyondFirst r.picture)
+LosesBefore s (ItemKind r) = IsTrue (shows_number r.picture.category) × (StaysNative s r → ⊥) × GivesDigit (MayGive s) (IsBeyondFirst r)
 
 -- A digit behind the point is lost: the same behind the receiver's last digit.
 abbrev pub LosesBehind : SenderKind → Kind → Type 0

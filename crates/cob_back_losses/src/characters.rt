@@ -18,7 +18,7 @@ fn item_characters(item: &Item, bytes: u32) -> u32
     ensures { result ≡ item_characters item.now bytes }
 {
     if is_number(item) {
-        u32::from(item.picture.digits()) + u32::from(zeros_of(item.picture.scale()))
+        u32::from(item.digits()) + u32::from(zeros_of(item.picture.scale()))
     } else {
         bytes
     }

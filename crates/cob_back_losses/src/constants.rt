@@ -11,7 +11,7 @@ ghost use Rattle.cob_back_losses.specs.Given.{GivesDigit, GivesMinus, SomeDigit}
 ghost use Rattle.cob_back_losses.specs.Losses.{IsBelowLast, IsBeyondFirst};
 
 use crate::numbers::{last_power, power_beyond};
-use cob_copybook_tree::{Figurative, Value};
+use cob_copybook_tree::{Figurative, Item, Value};
 use cob_decimal::{Digits, Number, are_digits};
 use cob_limits::MAX_DIGITS;
 use cob_picture::Picture;
@@ -100,10 +100,10 @@ fn stands_behind(digits: &[u8], point: i32, power: i32) -> bool
     stands_behind(others, point, power)
 }
 
-/// Whether the number that a constant is has a digit other than 0 before those of a picture.
-pub(crate) fn is_longer_before(value: &Value, picture: &Picture) -> bool
+/// Whether the number that a constant is has a digit other than 0 before those that a receiver keeps.
+pub(crate) fn is_longer_before(value: &Value, receiver: &Item) -> bool
     ensures { Decides result (GivesDigit (ConstantGives (plain_value value.now))
-        (IsBeyondFirst picture.now)) }
+        (IsBeyondFirst receiver.now)) }
 {
     let Some(number) = number_of(value) else {
         return false;
@@ -112,7 +112,7 @@ pub(crate) fn is_longer_before(value: &Value, picture: &Picture) -> bool
     stands_from(
         digits.as_slice(),
         i32::from(number.scale()),
-        power_beyond(picture),
+        power_beyond(receiver),
     )
 }
 

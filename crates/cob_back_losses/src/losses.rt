@@ -5,11 +5,12 @@ ghost use Rattle.std.specs.Bool.{Decides};
 ghost use Rattle.cob_copybook_entry.specs.Described.{plain_value};
 ghost use Rattle.cob_move_receive.specs.Table.{sender_kind};
 ghost use Rattle.cob_back_losses.specs.Given.{GivesDigit, GivesMinus, IsOfExtent, MayGive, extent_of};
-ghost use Rattle.cob_back_losses.specs.Losses.{TakesNumber, LacksSign, IsBelowLast, IsBeyondFirst, LosesBefore, LosesBehind, LosesCharacters, LosesSign, is_numeric_literal, sends_number};
+ghost use Rattle.cob_back_losses.specs.Losses.{TakesNumber, LacksSign, IsBelowLast, IsBeyondFirst, LosesBefore, LosesBehind, LosesCharacters, LosesSign, StaysNative, is_numeric_literal, sends_number};
 
 use crate::characters::{characters_of, room_for};
 use crate::constants::{is_below_zero, is_longer_before, is_longer_behind};
 use crate::numbers::{extends_before, extends_behind, extends_below_zero, extent_of};
+use cob_back_moves::is_same_native;
 use cob_copybook_tree::{Item, Kind, Value, is_number};
 use cob_move_receive::SenderKind;
 use cob_picture::Picture;
@@ -37,13 +38,13 @@ impl Losses {
     }
 }
 
-/// Whether an item may give a number with a digit other than 0 before those of a picture.
-fn item_gives_before(item: &Item, picture: &Picture) -> bool
+/// Whether an item may give a number with a digit other than 0 before those that a receiver keeps.
+fn item_gives_before(item: &Item, receiver: &Item) -> bool
     ensures { Decides result (GivesDigit (λ v. IsSomeAnd (extent_of item.now) (λ e. IsOfExtent e v))
-        (IsBeyondFirst picture.now)) }
+        (IsBeyondFirst receiver.now)) }
 {
     match extent_of(item) {
-        Some(extent) => extends_before(extent, picture),
+        Some(extent) => extends_before(extent, receiver),
         None => false,
     }
 }
@@ -70,16 +71,35 @@ fn item_gives_minus(item: &Item) -> bool
     }
 }
 
-/// Whether a sender may give a number with a digit other than 0 before those of a picture.
-fn gives_before(from: &SenderKind<'_>, picture: &Picture) -> bool
+/// Whether a sender may give a number with a digit other than 0 before those that a receiver keeps.
+fn gives_before(from: &SenderKind<'_>, receiver: &Item) -> bool
     ensures { Decides result (GivesDigit (MayGive (sender_kind from.now))
-        (IsBeyondFirst picture.now)) }
+        (IsBeyondFirst receiver.now)) }
 {
     match from {
         SenderKind::Entry(Kind::Group) => false,
-        SenderKind::Entry(Kind::Item(item)) => item_gives_before(item, picture),
-        SenderKind::Constant(value) => is_longer_before(value, picture),
+        SenderKind::Entry(Kind::Item(item)) => item_gives_before(item, receiver),
+        SenderKind::Constant(value) => is_longer_before(value, receiver),
     }
+}
+
+/// Whether a sender is native, and its number stays as it is in a receiver that is alike.
+fn stays_native(from: &SenderKind<'_>, receiver: &Item) -> bool
+    ensures { Decides result (StaysNative (sender_kind from.now) receiver.now) }
+{
+    match from {
+        SenderKind::Entry(Kind::Group) => false,
+        SenderKind::Entry(Kind::Item(item)) => is_same_native(item, receiver),
+        SenderKind::Constant(_) => false,
+    }
+}
+
+/// Whether a receiver may lose a digit before those that it keeps.
+fn is_cut_before(from: &SenderKind<'_>, receiver: &Item) -> bool
+    ensures { Decides result ((StaysNative (sender_kind from.now) receiver.now → ⊥)
+        × GivesDigit (MayGive (sender_kind from.now)) (IsBeyondFirst receiver.now)) }
+{
+    !stays_native(from, receiver) && gives_before(from, receiver)
 }
 
 /// Whether a sender may give a number with a digit other than 0 behind those of a picture.
@@ -112,7 +132,7 @@ fn loses_before(from: &SenderKind<'_>, to: &Kind) -> bool
     match to {
         Kind::Group => false,
         Kind::Item(receiver) => receiver.picture.category().shows_number()
-            && gives_before(from, &receiver.picture),
+            && is_cut_before(from, receiver),
     }
 }
 

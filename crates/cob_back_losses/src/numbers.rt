@@ -1,10 +1,9 @@
 //! The numbers that items may give.
 
-ghost use Rattle.std.specs.Prelude.{◌≡◌, ◌≤ℤ◌, ◌-ℤ◌, pos, negsuc};
+ghost use Rattle.std.specs.Prelude.{◌≡◌, ◌≤ℤ◌, pos, negsuc};
 ghost use Rattle.std.specs.Bool.{Decides};
-ghost use Rattle.cob_picture.specs.Counts.{digits, scale};
-ghost use Rattle.cob_back_losses.specs.Given.{GivesDigit, GivesMinus, IsOfExtent, extent_of, picture_extent};
-ghost use Rattle.cob_back_losses.specs.Losses.{IsBelowLast, IsBeyondFirst, last_power};
+ghost use Rattle.cob_back_losses.specs.Given.{GivesDigit, GivesMinus, IsOfExtent, extent_of, number_extent};
+ghost use Rattle.cob_back_losses.specs.Losses.{IsBelowLast, IsBeyondFirst, first_beyond, last_power};
 
 use cob_copybook_tree::Item;
 use cob_picture::{Category, Picture};
@@ -17,14 +16,14 @@ pub struct NumberExtent {
     pub signed: bool,
 }
 
-/// The numbers of a picture that shows one.
-fn extent_of_picture(picture: &Picture) -> NumberExtent
-    ensures { result ≡ picture_extent picture.now }
+/// The numbers of an item that shows one.
+fn extent_of_number(item: &Item) -> NumberExtent
+    ensures { result ≡ number_extent item.now }
 {
     NumberExtent {
-        digits: u16::from(picture.digits()),
-        scale: picture.scale(),
-        signed: picture.signed(),
+        digits: u16::from(item.digits()),
+        scale: item.picture.scale(),
+        signed: item.picture.signed(),
     }
 }
 
@@ -33,7 +32,7 @@ pub(crate) fn extent_of(item: &Item) -> Option<NumberExtent>
     ensures { result ≡ extent_of item.now }
 {
     match item.picture.category() {
-        Category::Numeric | Category::NumericEdited => Some(extent_of_picture(&item.picture)),
+        Category::Numeric | Category::NumericEdited => Some(extent_of_number(item)),
         Category::Alphanumeric => Some(NumberExtent {
             digits: item.size(),
             scale: 0,
@@ -43,13 +42,13 @@ pub(crate) fn extent_of(item: &Item) -> Option<NumberExtent>
     }
 }
 
-/// The first power of ten that is greater than those of a picture's digits.
-pub(crate) fn power_beyond(picture: &Picture) -> i32
-    ensures value { result ≡ (pos (digits picture.now.positions) -ℤ scale picture.now.positions) }
-    ensures least { negsuc 99 ≤ℤ result }
-    ensures most { result ≤ℤ pos 99 }
+/// The first power of ten that is greater than those of the digits that an item keeps.
+pub(crate) fn power_beyond(receiver: &Item) -> i32
+    ensures value { result ≡ first_beyond receiver.now }
+    ensures least { negsuc 999 ≤ℤ result }
+    ensures most { result ≤ℤ pos 999 }
 {
-    i32::from(picture.digits()) - i32::from(picture.scale())
+    i32::from(receiver.kept_digits()) - i32::from(receiver.picture.scale())
 }
 
 /// The least power of ten of a picture's digits.
@@ -61,11 +60,11 @@ pub(crate) fn last_power(picture: &Picture) -> i32
     -i32::from(picture.scale())
 }
 
-/// Whether some number that an item may give has a digit other than 0 before those of a picture.
-pub(crate) fn extends_before(extent: NumberExtent, picture: &Picture) -> bool
-    ensures { Decides result (GivesDigit (IsOfExtent extent) (IsBeyondFirst picture.now)) }
+/// Whether some number that an item may give has a digit other than 0 before those that a receiver keeps.
+pub(crate) fn extends_before(extent: NumberExtent, receiver: &Item) -> bool
+    ensures { Decides result (GivesDigit (IsOfExtent extent) (IsBeyondFirst receiver.now)) }
 {
-    let beyond = power_beyond(picture);
+    let beyond = power_beyond(receiver);
     if extent.digits == 0 {
         return false;
     }

@@ -357,9 +357,9 @@ returned law i j v w a b sound wider in_i gives is = at (is_number i) refl gives
         ap (λ (m : ℕ). shifted m (scale i.picture.positions -ℤ w.scale)) (is.value ∙ sym up.value) ∙ shift_back (number_of v.digits) up.places (scale i.picture.positions -ℤ w.scale) down in
         let minus : (w.negative && signed i.picture.positions) ≡ v.negative = ap (λ (n : Bool). n && signed i.picture.positions) is.minus ∙ kept_with v.negative (signed i.picture.positions) in_i.minus in
         native_held i w.negative w.digits w.scale (stored_form i v.negative v.digits) native (
-            ap (λ (f : StorageKind). written_as f (is_leading i.sign) i.picture v.negative v.digits) kind
-            ∙ ap (native_form (digits i.picture.positions) v.negative) (sym same)
-            ∙ ap (λ (n : Bool). native_form (digits i.picture.positions) n (shifted (number_of w.digits) (scale i.picture.positions -ℤ w.scale))) (sym minus)
+        ap (λ (f : StorageKind). written_as f (is_leading i.sign) i.picture v.negative v.digits) kind
+        ∙ ap (native_form (digits i.picture.positions) v.negative) (sym same)
+        ∙ ap (λ (n : Bool). native_form (digits i.picture.positions) n (shifted (number_of w.digits) (scale i.picture.positions -ℤ w.scale))) (sym minus)
         )
     stored_again false bound e =
         let count : given_digits i ≡ digits i.picture.positions = given_bound i e bound in

@@ -181,8 +181,7 @@ natives_return law i j there back a b sound also same read read_back got =
     let c : List ℕ = stored_form i v.negative v.digits in
     let again : IsNumberIn Pictured i c v = record { represents = law.back i v.negative v.digits same.number (sound.some shows) home; point = in_i.point } in
     let keeps : HoldsNumber i v.negative v.digits v.scale c =
-    native_held i v.negative v.digits v.scale c same.native (same_left i v same.number same.native in_i.point in_i.minus) in
-    (
+    native_held i v.negative v.digits v.scale c same.native (same_left i v same.number same.native in_i.point in_i.minus) in (
       c,
       gets_number back j i (item_size i) b c v shows (pictured_gives back j b v read_back (number_gives j b v (number_is j same.also) there_is))
           (as_number (is_number i) (HoldsNumber i v.negative v.digits v.scale c) (IsEdited i.picture i.blank v.negative v.digits v.scale c) (number_is i same.number) keeps),

@@ -82,3 +82,4 @@ pub use same_parts::is_same_item;
 pub use single::BothLayouts;
 pub use some::MovesBetween;
 pub use standing::stands_one_way;
+pub use wider::{given_before, is_same_native};

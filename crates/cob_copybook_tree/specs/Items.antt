@@ -11,7 +11,7 @@ use Rattle.cob_copybook_tree.specs.declared.kinds.StorageKind.{StorageKind}
 use Rattle.cob_copybook_tree.specs.declared.node.Item.{Item}
 use Rattle.cob_copybook_tree.specs.Lengths.{item_size}
 use Rattle.cob_copybook_tree.specs.Resolving.{is_numeric, is_number}
-use Rattle.cob_copybook_tree.specs.Storage.{FitsAs, IsFlawAs, RepresentsAs, SentAs, TakesPicture, digits_as, is_leading, is_native, storage_kind_by, written_as}
+use Rattle.cob_copybook_tree.specs.Storage.{FitsAs, IsFlawAs, RepresentsAs, SentAs, TakesPicture, digits_as, is_leading, is_native, kept_as, storage_kind_by, written_as}
 
 -- the kind of storage of an item
 abbrev pub storage_kind : Item → StorageKind
@@ -51,6 +51,10 @@ number_digits i = digits_as (storage_kind i) (digits i.picture.positions)
 -- how many digits the number has that an item gives: an edited one has those of its picture
 abbrev pub given_digits : Item → ℕ
 given_digits i = if is_number i then number_digits i else digits i.picture.positions
+
+-- how many digits it keeps of whatever number is moved to it
+abbrev pub kept_digits : Item → ℕ
+kept_digits i = if is_number i then kept_as (storage_kind i) (digits i.picture.positions) else digits i.picture.positions
 
 -- A number that an item can hold: as many digits as its numbers have, and negative only where it has a sign. Zero is not negative.
 pub record IsHeldIn (i : Item) (negative : Bool) (ds : List ℕ) : Type 0 where

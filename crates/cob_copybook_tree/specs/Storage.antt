@@ -1,5 +1,5 @@
 -- The kinds of storage of a number, and all that depends on the kind.
-use Rattle.std.specs.Prelude.{◌≡◌, ℕ, ◌+◌, ◌-◌, ◌/◌, ◌≤◌, pos, ◌-ℤ◌, ◌≤ℤ◌, Bool, true, false, not, if◌then◌else◌, List, length, codes, Option, Some, None}
+use Rattle.std.specs.Prelude.{◌≡◌, ℕ, ◌+◌, ◌-◌, ◌/◌, ◌≤◌, pos, ◌-ℤ◌, ◌≤ℤ◌, Bool, true, false, not, nat_le, if◌then◌else◌, List, length, codes, Option, Some, None}
 use Rattle.cob_limits.specs.Limits.{most_binary_digits}
 use Rattle.cob_picture.specs.Positions.{PlainPicture}
 use Rattle.cob_picture.specs.Counts.{digits, scale, signed, size}
@@ -132,6 +132,14 @@ digits_as Separate n = n
 digits_as Packed n = n
 digits_as Binary n = n
 digits_as Native n = whole_digits n
+
+-- how many digits bytes of this kind keep of whatever number is put at their point, under a picture of so many: as many, and native ones 4, 9 or 18
+abbrev pub kept_as : StorageKind → ℕ → ℕ
+kept_as Zoned n = n
+kept_as Separate n = n
+kept_as Packed n = n
+kept_as Binary n = n
+kept_as Native n = if nat_le n 4 then 4 else (if nat_le n 9 then 9 else 18)
 
 -- bytes of this kind hold a number of so many digits and this magnitude, negative or not: a native one where there are bytes enough
 abbrev pub FitsAs : StorageKind → PlainPicture → Bool → ℕ → Type 0

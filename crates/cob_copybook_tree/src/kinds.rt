@@ -10,16 +10,16 @@ ghost use Rattle.cob_codec.specs.declared.reading.Reading.{Reading};
 ghost use Rattle.cob_codec.specs.declared.reading.Reading.TheVariants.{AnyZones, Whole, WholeAnyZones};
 ghost use Rattle.cob_decimal.specs.Answers.{AnswersNumber};
 ghost use Rattle.cob_picture.specs.Counts.{digits, scale, signed};
-ghost use Rattle.cob_copybook_tree.specs.Items.{storage_kind, HoldsAligned, HoldsNumber, IsFlawOf, IsNumberItem, IsSentBy, Represents, given_digits, stored_form};
+ghost use Rattle.cob_copybook_tree.specs.Items.{storage_kind, HoldsAligned, HoldsNumber, IsFlawOf, IsNumberItem, IsSentBy, Represents, given_digits, kept_digits, stored_form};
 ghost use Rattle.cob_copybook_tree.specs.Lengths.{item_size};
-ghost use Rattle.cob_copybook_tree.specs.Storage.{digits_as, is_leading, is_native, is_read_whole, is_separate, is_zoned, number_words, reads_strictly, storage_kind_by, storage_word, stored_size, AllowsPicture, IsNarrow, TakesPicture};
+ghost use Rattle.cob_copybook_tree.specs.Storage.{digits_as, is_leading, is_native, is_read_whole, is_separate, is_zoned, kept_as, number_words, reads_strictly, storage_kind_by, storage_word, stored_size, AllowsPicture, IsNarrow, TakesPicture};
 ghost use Rattle.cob_copybook_tree.specs.declared.kinds.StorageKind.TheVariants as kind;
 
 use crate::Item;
 use crate::resolving::is_number;
 use cob_codec::{
-    Binary, Flaw, Native, NumberFlaw, Packed, Reading, Separate, Storage, Zoned, packed_flaw, separate_flaw,
-    zoned_flaw,
+    Binary, Flaw, Native, NumberFlaw, Packed, Reading, Separate, Storage, Zoned, packed_flaw,
+    separate_flaw, zoned_flaw,
 };
 use cob_copybook_entry::{Sign, Usage};
 use cob_decimal::Number;
@@ -83,6 +83,17 @@ fn whole_digits(digits: u8) -> u8
     }
 }
 
+/// How many digits the bytes of a binary number of so many digits hold, whatever they are.
+fn filled_digits(digits: u8) -> u8
+    ensures { result ≡ kept_as kind.Native digits }
+{
+    match digits {
+        0..=4 => 4,
+        5..=9 => 9,
+        _ => 18,
+    }
+}
+
 /// Whether the number has few enough digits for a binary item, those that a P stands for counted too.
 fn is_narrow(picture: &Picture) -> bool
     ensures yes { IsTrue result → IsNarrow picture.now }
@@ -131,6 +142,17 @@ impl StorageKind {
             StorageKind::Zoned | StorageKind::Separate | StorageKind::Packed => digits,
             StorageKind::Binary => digits,
             StorageKind::Native => whole_digits(digits),
+        }
+    }
+
+    /// How many digits it keeps of whatever number is put at its point, under a picture of so many.
+    fn kept_digits(self, digits: u8) -> u8
+        ensures value { result ≡ kept_as self digits }
+    {
+        match self {
+            StorageKind::Zoned | StorageKind::Separate | StorageKind::Packed => digits,
+            StorageKind::Binary => digits,
+            StorageKind::Native => filled_digits(digits),
         }
     }
 
@@ -443,6 +465,18 @@ impl Item {
         let digits = self.picture.digits();
         if is_number(self) {
             self.storage_kind().digits(digits)
+        } else {
+            digits
+        }
+    }
+
+    /// How many digits it keeps of whatever number is moved to it: those of its picture, and a native item 4, 9 or 18, by its 2, 4 or 8 bytes.
+    pub fn kept_digits(&self) -> u8
+        ensures { result ≡ kept_digits self.now }
+    {
+        let digits = self.picture.digits();
+        if is_number(self) {
+            self.storage_kind().kept_digits(digits)
         } else {
             digits
         }

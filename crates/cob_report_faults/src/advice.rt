@@ -1,6 +1,6 @@
 //! What to do where an item has no value, by what its bytes look like.
 
-use cob_copybook_tree::Item;
+use cob_copybook_tree::{Item, StorageKind};
 use cob_move_data::Side;
 use cob_picture::Category;
 
@@ -107,10 +107,15 @@ fn advice_for(look: ByteLook) -> &'static str {
     }
 }
 
+/// Whether a paragraph may test a number of this kind for NUMERIC.
+fn may_be_numeric(kind: StorageKind) -> bool {
+    !kind.is_read_whole() && !kind.is_native()
+}
+
 /// Whether a paragraph may test an item for NUMERIC.
 fn may_be_tested(item: &Item) -> bool {
     match item.picture.category() {
-        Category::Numeric => !item.storage_kind().is_read_whole(),
+        Category::Numeric => may_be_numeric(item.storage_kind()),
         Category::Alphanumeric => true,
         Category::Alphabetic | Category::AlphanumericEdited | Category::NumericEdited => false,
     }

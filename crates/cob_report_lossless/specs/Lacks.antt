@@ -6,6 +6,7 @@ use Rattle.cob_picture.specs.declared.category.Category.TheVariants.{Alphanumeri
 use Rattle.cob_copybook_tree.specs.declared.node.Item.{Item}
 use Rattle.cob_copybook_tree.specs.Lengths.{item_size}
 use Rattle.cob_move_receive.specs.Copying.{is_of_characters}
+use Rattle.cob_back_moves.specs.Wider.{given_before}
 use Rattle.cob_report_lossless.specs.declared.lacks.Lack.{Lack}
 use Rattle.cob_report_lossless.specs.declared.lacks.Lack.TheVariants as lack
 
@@ -18,7 +19,7 @@ ArePaired i j = ((shows_number i.picture.category && shows_number j.picture.cate
 abbrev pub Lacks : Item → Item → Lack → Type 0
 Lacks i j lack.Unedited = i.picture.category ≡ AlphanumericEdited
 Lacks i j lack.Category = ArePaired i j → ⊥
-Lacks i j lack.Before = digits_before i.picture ≤ℤ digits_before j.picture → ⊥
+Lacks i j lack.Before = given_before i ≤ℤ digits_before j.picture → ⊥
 Lacks i j lack.Behind = scale i.picture.positions ≤ℤ scale j.picture.positions → ⊥
 Lacks i j lack.Sign = IsTrue (signed i.picture.positions) × IsFalse (signed j.picture.positions)
 Lacks i j lack.Left = IsTrue i.justified

@@ -7,6 +7,7 @@ ghost use Rattle.cob_move_receive.specs.Copying.{is_of_characters};
 ghost use Rattle.cob_back_moves.specs.Wider.{IsLongerText, IsWiderNumber, LosesNothing};
 ghost use Rattle.cob_report_lossless.specs.Lacks.{ArePaired, Lacks};
 
+use cob_back_moves::{given_before, is_same_native};
 use cob_copybook_tree::Item;
 use cob_move_receive::is_of_characters;
 
@@ -47,7 +48,7 @@ fn lack_of_number(item: &Item, other: &Item) -> Option<Lack>
     ensures lost { IfSome result (λ lack. IsWiderNumber item.now other.now → ⊥) }
     ensures lacks { IfSome result (λ lack. Lacks item.now other.now lack) }
 {
-    if other.picture.digits_before() < item.picture.digits_before() {
+    if other.picture.digits_before() < given_before(item) {
         return Some(Lack::Before);
     }
     if other.picture.scale() < item.picture.scale() {
@@ -96,6 +97,9 @@ pub fn lack_of(item: &Item, other: &Item) -> Option<Lack>
     ensures lost { IfSome result (λ lack. LosesNothing item.now other.now → ⊥) }
     ensures lacks { IfSome result (λ lack. Lacks item.now other.now lack) }
 {
+    if is_same_native(item, other) {
+        return None;
+    }
     if item.picture.category().shows_number() && other.picture.category().shows_number() {
         return lack_of_number(item, other);
     }

@@ -2,7 +2,7 @@
 
 use crate::lacks::Lack;
 use crate::reasons::{LossPosition, LossReason, ToldLoss};
-use cob_back_moves::Direction;
+use cob_back_moves::{Direction, given_before};
 use cob_copybook_tree::Item;
 use cob_move_data::Side;
 use cob_move_loops::ChoiceKind;
@@ -123,10 +123,18 @@ fn write_more_digits<W: fmt::Write>(
     }
 }
 
-/// How many digits an item's number has on a side of the point; below 0, so many places beyond it.
+/// How many digits an item's picture has on a side of the point; below 0, so many places beyond it.
 fn digits_on(part: PointSide, item: &Item) -> i16 {
     match part {
         PointSide::Before => item.picture.digits_before(),
+        PointSide::Behind => i16::from(item.picture.scale()),
+    }
+}
+
+/// How many digits the number that an item gives has on a side of the point.
+fn digits_given_on(part: PointSide, item: &Item) -> i16 {
+    match part {
+        PointSide::Before => given_before(item),
         PointSide::Behind => i16::from(item.picture.scale()),
     }
 }
@@ -158,7 +166,7 @@ impl ItemPair<'_, '_> {
         self.write_other(f)?;
         write_digits(f, part, fewer)?;
         write!(f, ", and {} ", self.item)?;
-        write_more_digits(f, part, digits_on(part, self.own), fewer)
+        write_more_digits(f, part, digits_given_on(part, self.own), fewer)
     }
 
     /// Writes that the second item has fewer characters.

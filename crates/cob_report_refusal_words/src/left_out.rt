@@ -33,19 +33,6 @@ fn binary_size(word: &Token) -> usize {
     }
 }
 
-/// What to do with an item that is COMP-5.
-fn native_hint(entry: &[Token]) -> Phrase<'_> {
-    match picture_word(entry) {
-        Some(word) => Phrase::of_three(
-            "write COMP where each value keeps to the digits of PIC {}, or where {} is only sent and convert has --binary whole; else PIC X({})",
-            Part::Word(word),
-            Part::Entry(entry),
-            Part::Number(binary_size(word)),
-        ),
-        None => Phrase::plain("write COMP where each value keeps to the digits of its picture"),
-    }
-}
-
 /// What to do with the words that are left out: the entry's storage without them.
 static WAYS_ROUND: [(&str, &str); 18] = [
     ("COMP-1", SINGLE),
@@ -110,11 +97,6 @@ fn way_round(text: &[u8]) -> &'static str {
         }
     }
     "leave it out: it says nothing of a record's storage"
-}
-
-/// Whether it is the usage of a number in the machine's own form.
-fn is_native(text: &[u8]) -> bool {
-    text == b"COMP-5".as_slice() || text == b"COMPUTATIONAL-5".as_slice()
 }
 
 /// The usages of binary items.
@@ -186,9 +168,6 @@ fn form_of(text: &[u8]) -> &'static str {
 
 /// What to do with a word of an entry that is left out.
 fn hint_of<'a>(entry: &'a [Token], text: &[u8]) -> Phrase<'a> {
-    if is_native(text) {
-        return native_hint(entry);
-    }
     if is_aligned(text) {
         return slack_hint(entry);
     }

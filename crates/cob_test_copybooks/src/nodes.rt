@@ -11,6 +11,7 @@ fn push_item(out: &mut String, item: &Item) -> Result<(), AllocError> {
         Usage::Display => 'D',
         Usage::Binary => 'B',
         Usage::Packed => 'P',
+        Usage::Native => 'N',
     })?;
     if let Some(sign) = item.sign {
         out.push(if sign.leading { '<' } else { '>' })?;

@@ -3,7 +3,7 @@
 use crate::numbers::push_number;
 use crate::pictures::picture_of;
 use cob_copybook_entry::{Sign, Usage};
-use cob_copybook_tree::{Item, is_number_item, read_number, store_number};
+use cob_copybook_tree::{Item, hold_number, is_number_item, read_number};
 use cob_decimal::Number;
 use cob_test_rows::{Row, RowFault, push_digits};
 use std::alloc::Global;
@@ -14,6 +14,7 @@ fn usage_of(name: &str) -> Result<Usage, RowFault> {
         "DISPLAY" => Ok(Usage::Display),
         "PACKED-DECIMAL" => Ok(Usage::Packed),
         "BINARY" => Ok(Usage::Binary),
+        "COMP-5" => Ok(Usage::Native),
         _ => Err(RowFault::BadRow),
     }
 }
@@ -54,10 +55,8 @@ fn stored(alloc: Global, item: &Item, number: &Number) -> Result<Vec<u8>, RowFau
     if !is_number_item(item) {
         return Err(RowFault::BadRow);
     }
-    let picture = &item.picture;
-    let aligned = number.align(picture.digits(), picture.scale(), picture.signed());
     let mut bytes = vec![in alloc; 0x55u8; usize::from(item.size())]?;
-    store_number(item, &aligned, &mut bytes);
+    hold_number(item, number, &mut bytes);
     Ok(bytes)
 }
 

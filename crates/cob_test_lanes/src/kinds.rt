@@ -131,7 +131,7 @@ impl ItemKind {
     {
         match self.usage {
             Usage::Packed => 31,
-            Usage::Display | Usage::Binary => self.most_digits(),
+            Usage::Display | Usage::Binary | Usage::Native => self.most_digits(),
         }
     }
 }

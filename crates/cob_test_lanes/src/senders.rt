@@ -175,7 +175,7 @@ fn push_binary(bytes: &mut Vec<u8>, drawn: &Drawn, signed: bool) -> Result<(), A
 fn push_item(bytes: &mut Vec<u8>, kind: &ItemKind, drawn: &Drawn) -> Result<(), AllocError> {
     match kind.usage {
         Usage::Packed => push_packed(bytes, drawn),
-        Usage::Binary => push_binary(bytes, drawn, kind.signed),
+        Usage::Binary | Usage::Native => push_binary(bytes, drawn, kind.signed),
         Usage::Display => {
             if kind.is_separate() {
                 push_separate(bytes, drawn, kind.leads())
