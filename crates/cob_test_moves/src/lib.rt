@@ -24,7 +24,7 @@ pub struct MoveRows;
 impl Family for MoveRows {
     fn answer(alloc: Global, table: &str, row: &Row, out: &mut String) -> Result<(), RowFault> {
         match table {
-            "groups" | "characters" | "numbers" | "edited" | "figurative" | "literals" | "whole" =>
+            "groups" | "characters" | "numbers" | "edited" | "figurative" | "literals" | "whole" | "native" =>
                 moves::answer(alloc, row, out),
             "statements" | "references" | "allowed" | "corresponding" => {
                 paragraphs::answer(alloc, row, false, out)
