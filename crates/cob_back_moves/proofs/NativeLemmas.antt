@@ -14,7 +14,7 @@ use Rattle.cob_codec.specs.Native.{FitsNative}
 use Rattle.cob_codec.proofs.BinaryLaws.{fits_half, half_of, width}
 use Rattle.cob_copybook_tree.specs.declared.kinds.StorageKind.{StorageKind}
 use Rattle.cob_copybook_tree.specs.declared.kinds.StorageKind.TheVariants.{Zoned, Separate, Packed, Binary, Native}
-use Rattle.cob_copybook_tree.specs.Storage.{FitsAs, TakesPicture, digits_as, is_native, stored_size}
+use Rattle.cob_copybook_tree.specs.Storage.{FitsAs, TakesPicture, is_native, stored_size}
 
 -- ---- kinds of storage
 
@@ -25,15 +25,7 @@ native_kind Separate is = absurd (cc)
 native_kind Packed is = absurd (cc)
 native_kind Binary is = absurd (cc)
 
--- numbers of other kinds have the picture's digits
-pub bound_digits : (f : StorageKind) (n : ℕ) → is_native f ≡ false → digits_as f n ≡ n
-bound_digits Zoned n is = refl
-bound_digits Separate n is = refl
-bound_digits Packed n is = refl
-bound_digits Binary n is = refl
-bound_digits Native n is = absurd (cc)
-
--- and any of these fits
+-- any number of the picture's digits fits other kinds
 pub bound_fits : (f : StorageKind) (p : PlainPicture) (negative : Bool) (m : ℕ) → is_native f ≡ false → FitsAs f p negative m
 bound_fits Zoned p negative m is = tt
 bound_fits Separate p negative m is = tt

@@ -22,13 +22,13 @@ use Rattle.cob_copybook_tree.specs.declared.kinds.StorageKind.{StorageKind}
 use Rattle.cob_copybook_tree.specs.declared.kinds.StorageKind.TheVariants.{Native}
 use Rattle.cob_copybook_tree.specs.Items.{HoldsNumber, HoldsNumbers, IsHeldIn, IsNumberItem, IsStorable, ItemReadsBack, given_digits, number_digits, storage_kind, stored_form}
 use Rattle.cob_copybook_tree.specs.Storage.{FitsAs, digits_as, is_leading, is_native, written_as}
-use Rattle.cob_copybook_tree.proofs.ItemLemmas.{aligned_held, native_held}
+use Rattle.cob_copybook_tree.proofs.ItemLemmas.{aligned_held, bound_digits, native_held}
 use Rattle.cob_move_receive.specs.Sent.{Amount}
 use Rattle.cob_move_receive.specs.Numbers.{GivesUnder, HoldsAligned, HoldsAmount, IsNumberIn, IsUnedited, ItemGives}
 use Rattle.cob_codec.specs.declared.reading.Reading.TheVariants.{Pictured}
 use Rattle.cob_back_moves.specs.Laws.{IsSoundItem}
 use Rattle.cob_back_moves.specs.Wider.{IsWiderNumber}
-use Rattle.cob_back_moves.proofs.NativeLemmas.{bound_digits, bound_fits, fits_native, kept_with, last_digits, length-last_digits, native_few, native_kind, number_of-last_digits, rise_of, scaled_lt, shift_back, valid-last_digits, whole_room}
+use Rattle.cob_back_moves.proofs.NativeLemmas.{bound_fits, fits_native, kept_with, last_digits, length-last_digits, native_few, native_kind, number_of-last_digits, rise_of, scaled_lt, shift_back, valid-last_digits, whole_room}
 
 -- the laws below
 pub record Laws : Type 0 where

@@ -155,6 +155,14 @@ holds i bytes negative ds n h =
     let held = held_as (storage_kind i) (is_leading i.sign) i.picture bytes negative ds n.taken h in
     record { count_is = held.count_is; valid = held.valid; minus = held.minus; nonzero = held.nonzero; fits = held.fits }
 
+-- numbers of other kinds than native have the picture's digits
+pub bound_digits : (f : StorageKind) (n : ℕ) → is_native f ≡ false → digits_as f n ≡ n
+bound_digits Zoned n is = refl
+bound_digits Separate n is = refl
+bound_digits Packed n is = refl
+bound_digits Binary n is = refl
+bound_digits Native n is = absurd (cc)
+
 -- an item that isn't native holds what its digits aligned by the point leave
 pub aligned_held : (i : Item) (negative : Bool) (ds : List ℕ) (from : ℤ) (bytes : List ℕ) → is_native (storage_kind i) ≡ false → HoldsAligned i negative ds from bytes → HoldsNumber i negative ds from bytes
 aligned_held i negative ds from bytes e h =

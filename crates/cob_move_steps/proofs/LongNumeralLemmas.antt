@@ -93,7 +93,7 @@ long_numerals_moved s r step w reading item front back first last new told minus
     let d : AreLongDigits count point point value first last =
     long_are count point point value first last (omega (arith, writes.sends.few)) (keep_front value (count - 16) (point -ℤ point -ℤ pos 16) is.front a.held) (keep_back value (last_count count) (point -ℤ point) is.back a.held) in
     let sent : IsSentBy reading s item a.negative a.digits = number_sent reading s item (at_scale s a.negative a.digits) writes.sends.number a.represented in
-    let many : length a.digits ≡ count = sent_long s reading item a.negative a.digits writes.sends.number suits sent in
+    let many : length a.digits ≡ count = sent_long s reading item a.negative a.digits writes.sends.number writes.sends.bound suits sent in
     let small : value < 10 ^ count = subst (λ k. value < 10 ^ k) many (number_of-lt a.digits a.valid) in
     let whole : shifted value (point -ℤ point) ≡ value = ap (λ z. shifted value z) (none_moved point) ∙ all_shifted value in
     let own : long_digits count first last ≡ a.digits =

@@ -10,7 +10,6 @@ use Rattle.cob_decimal.specs.Parts.{zeros_of}
 use Rattle.cob_decimal.proofs.DecimalLemmas.{number_of-lt, one_list}
 use Rattle.cob_picture.specs.Counts.{digits, scale, signed}
 use Rattle.cob_picture.specs.Positions.{PlainPicture, shows_number}
-use Rattle.cob_codec.specs.Sign.{IsHeld}
 use Rattle.cob_codec.specs.Readings.{KeepsZones}
 use Rattle.cob_codec.specs.declared.reading.Reading.{Reading}
 use Rattle.cob_codec.specs.declared.reading.Reading.TheVariants.{AnyZones, Pictured, Whole, WholeAnyZones}
@@ -18,8 +17,8 @@ use Rattle.cob_copybook_tree.specs.declared.kinds.StorageKind.{StorageKind}
 use Rattle.cob_copybook_tree.specs.declared.kinds.StorageKind.TheVariants as kind
 use Rattle.cob_copybook_tree.specs.declared.node.Item.{Item}
 use Rattle.cob_copybook_tree.specs.declared.node.Kind.TheVariants.{Item as ItemKind}
-use Rattle.cob_copybook_tree.specs.Items.{storage_kind, IsNumberItem, IsSentBy, Represents}
-use Rattle.cob_copybook_tree.specs.Storage.{is_leading, is_read_whole, RepresentsAs, SentAs}
+use Rattle.cob_copybook_tree.specs.Items.{storage_kind, IsHeldIn, IsNumberItem, IsSentBy, Represents}
+use Rattle.cob_copybook_tree.specs.Storage.{is_leading, is_native, is_read_whole, RepresentsAs, SentAs}
 use Rattle.cob_copybook_tree.specs.Lengths.{item_size}
 use Rattle.cob_copybook_tree.specs.Resolving.{is_number}
 use Rattle.cob_copybook_tree.proofs.ItemLemmas as item_laws
@@ -67,14 +66,15 @@ pictured_as Whole kind.Zoned leading p bytes negative ds keeps suits sent = sent
 pictured_as Whole kind.Separate leading p bytes negative ds keeps suits sent = sent
 pictured_as Whole kind.Packed leading p bytes negative ds keeps suits sent = sent
 pictured_as Whole kind.Binary leading p bytes negative ds keeps suits sent = let other : Whole ≡ Pictured = suits refl in absurd (cc)
+pictured_as Whole kind.Native leading p bytes negative ds keeps suits sent = sent
 pictured_as AnyZones f leading p bytes negative ds keeps suits sent = absurd (cc)
 pictured_as WholeAnyZones f leading p bytes negative ds keeps suits sent = absurd (cc)
 
-pub sent_long : (i : Item) (reading : Reading) (bytes : List ℕ) (negative : Bool) (ds : List ℕ) → IsNumberItem i → SuitsReading i reading → IsSentBy reading i bytes negative ds → length ds ≡ item_digits i
-sent_long i reading bytes negative ds n suits sent =
+pub sent_long : (i : Item) (reading : Reading) (bytes : List ℕ) (negative : Bool) (ds : List ℕ) → IsNumberItem i → is_native (storage_kind i) ≡ false → SuitsReading i reading → IsSentBy reading i bytes negative ds → length ds ≡ item_digits i
+sent_long i reading bytes negative ds n bound suits sent =
     let there : Represents i bytes negative ds = pictured_as reading (storage_kind i) (is_leading i.sign) i.picture bytes negative ds suits.0 suits.1 sent in
-    let held : IsHeld (digits i.picture.positions) (signed i.picture.positions) negative ds = item_laws.holds i bytes negative ds n there in
-    held.count_is
+    let held : IsHeldIn i negative ds = item_laws.holds i bytes negative ds n there in
+    held.count_is ∙ item_laws.bound_digits (storage_kind i) (item_digits i) bound
 
 -- ---- their characters
 
@@ -146,7 +146,7 @@ numerals_moved s r step reading bytes kept made text new told minus n is suits n
     let few : count ≤ 16 = omega (arith, is.sends.few) in
     let a : AreRead (GivesSigned reading s item) count (point -ℤ point) minus kept = read.number (not_false told number) in
     let sent : IsSentBy reading s item a.negative a.digits = number_sent reading s item (at_scale s a.negative a.digits) is.sends.number a.represented in
-    let many : length a.digits ≡ count = sent_long s reading item a.negative a.digits is.sends.number suits sent in
+    let many : length a.digits ≡ count = sent_long s reading item a.negative a.digits is.sends.number is.sends.bound suits sent in
     let own : take count kept ≡ a.digits = kept_own count point a.digits kept few many a.valid a.held in
     let led : AreLed count kept = record { long = a.held.long; tens = wanted_tens count (point -ℤ point) (number_of a.digits) kept a.held; rest = a.held.rest } in
     let written : text ≡ numerals_to_point a.digits point =

@@ -4,7 +4,8 @@ use Rattle.cob_cp037.specs.Named.{zero_byte}
 use Rattle.cob_decimal.specs.Parts.{zeros_of}
 use Rattle.cob_picture.specs.Counts.{scale}
 use Rattle.cob_copybook_tree.specs.declared.node.Item.{Item}
-use Rattle.cob_copybook_tree.specs.Items.{IsNumberItem}
+use Rattle.cob_copybook_tree.specs.Items.{IsNumberItem, storage_kind}
+use Rattle.cob_copybook_tree.specs.Storage.{is_native}
 use Rattle.cob_copybook_tree.specs.Lengths.{item_size}
 use Rattle.cob_codec_lanes.specs.Texts.{AreShown}
 use Rattle.cob_codec_lanes.specs.declared.text.LaneText.{LaneText}
@@ -19,9 +20,10 @@ use Rattle.cob_move_steps.specs.declared.numerals_step.NumeralsStep.{NumeralsSte
 abbrev pub numeral_count : Item → ℕ
 numeral_count i = item_digits i + zeros_of (scale i.picture.positions)
 
--- The number of the item has at most sixteen digits, with a zero for each P at the right.
+-- The number of the item, which its picture bounds, has at most sixteen digits, with a zero for each P at the right.
 pub record HasFewNumerals (i : Item) : Type 0 where
   pub number : IsNumberItem i
+  pub bound : is_native (storage_kind i) ≡ false
   pub few : numeral_count i ≤ 16
 
 -- The lane of the digit that a character shows, or none for one behind so many digits.

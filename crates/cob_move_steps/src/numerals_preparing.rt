@@ -6,8 +6,9 @@ ghost use Rattle.cob_move_steps.specs.Numerals.{HasFewNumerals, HaveNumerals, Is
 
 use crate::ends_preparing::stored_reader;
 use crate::numerals_step::NumeralsStep;
+use crate::storage::is_bound_number;
 use cob_codec_lanes::{LaneText, NO_LANE, Picks};
-use cob_copybook_tree::{Item, is_number_item};
+use cob_copybook_tree::Item;
 use cob_cp037::ZERO;
 use cob_decimal::zeros_of;
 use cob_move_receive::is_of_characters;
@@ -19,11 +20,11 @@ pub(crate) fn numeral_count(item: &Item) -> usize
     usize::from(item.picture.digits()) + usize::from(zeros_of(item.picture.scale()))
 }
 
-/// Whether an item is a number, and its digits are at most sixteen characters.
+/// Whether an item is a number that its picture bounds, and its digits are at most sixteen characters.
 fn has_few_numerals(item: &Item) -> bool
     ensures { IsTrue result ↔ HasFewNumerals item.now }
 {
-    is_number_item(item) && numeral_count(item) <= 16
+    is_bound_number(item) && numeral_count(item) <= 16
 }
 
 /// The lane of the digit that a character shows, or none for one behind the digits.
