@@ -164,7 +164,8 @@ impl StorageKind {
         match self {
             StorageKind::Zoned | StorageKind::Packed => true,
             StorageKind::Separate => picture.signed(),
-            StorageKind::Binary | StorageKind::Native => picture.digits() <= MAX_BINARY_DIGITS,
+            StorageKind::Binary => picture.digits() <= MAX_BINARY_DIGITS,
+            StorageKind::Native => picture.digits() <= MAX_BINARY_DIGITS,
         }
     }
 
@@ -175,7 +176,8 @@ impl StorageKind {
     {
         match self {
             StorageKind::Zoned | StorageKind::Separate | StorageKind::Packed => true,
-            StorageKind::Binary | StorageKind::Native => is_narrow(picture),
+            StorageKind::Binary => is_narrow(picture),
+            StorageKind::Native => is_narrow(picture),
         }
     }
 
@@ -207,7 +209,8 @@ impl StorageKind {
             StorageKind::Zoned => picture.size(),
             StorageKind::Separate => picture.size() + 1,
             StorageKind::Packed => u16::from(picture.digits()) / 2 + 1,
-            StorageKind::Binary | StorageKind::Native => binary_length(picture.digits()),
+            StorageKind::Binary => binary_length(picture.digits()),
+            StorageKind::Native => binary_length(picture.digits()),
         }
     }
 
