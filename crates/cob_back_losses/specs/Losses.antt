@@ -37,11 +37,15 @@ StaysNative (Entry Group) r = ⊥
 StaysNative (Entry (ItemKind i)) r = IsSameNative i r
 StaysNative (Literal c) r = ⊥
 
--- A digit before the point is lost: the receiver takes a number, and the sender may give one with a digit other than 0 before those that the receiver
--- keeps.
+-- The sender may give a number with a digit other than 0 before those that the receiver keeps, and no native one stays as it is.
+pub record IsCutBefore (s : SenderKind) (r : Item) : Type 0 where
+  pub other : StaysNative s r → ⊥
+  pub gives : GivesDigit (MayGive s) (IsBeyondFirst r)
+
+-- A digit before the point is lost: the receiver takes a number, and the sender's is cut before those digits that the receiver keeps.
 abbrev pub LosesBefore : SenderKind → Kind → Type 0
 LosesBefore s Group = ⊥
-LosesBefore s (ItemKind r) = IsTrue (shows_number r.picture.category) × (StaysNative s r → ⊥) × GivesDigit (MayGive s) (IsBeyondFirst r)
+LosesBefore s (ItemKind r) = IsTrue (shows_number r.picture.category) × IsCutBefore s r
 
 -- A digit behind the point is lost: the same behind the receiver's last digit.
 abbrev pub LosesBehind : SenderKind → Kind → Type 0

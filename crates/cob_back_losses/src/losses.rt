@@ -5,7 +5,7 @@ ghost use Rattle.std.specs.Bool.{Decides};
 ghost use Rattle.cob_copybook_entry.specs.Described.{plain_value};
 ghost use Rattle.cob_move_receive.specs.Table.{sender_kind};
 ghost use Rattle.cob_back_losses.specs.Given.{GivesDigit, GivesMinus, IsOfExtent, MayGive, extent_of};
-ghost use Rattle.cob_back_losses.specs.Losses.{TakesNumber, LacksSign, IsBelowLast, IsBeyondFirst, LosesBefore, LosesBehind, LosesCharacters, LosesSign, StaysNative, is_numeric_literal, sends_number};
+ghost use Rattle.cob_back_losses.specs.Losses.{TakesNumber, LacksSign, IsBelowLast, IsBeyondFirst, IsCutBefore, LosesBefore, LosesBehind, LosesCharacters, LosesSign, StaysNative, is_numeric_literal, sends_number};
 
 use crate::characters::{characters_of, room_for};
 use crate::constants::{is_below_zero, is_longer_before, is_longer_behind};
@@ -96,8 +96,7 @@ fn stays_native(from: &SenderKind<'_>, receiver: &Item) -> bool
 
 /// Whether a receiver may lose a digit before those that it keeps.
 fn is_cut_before(from: &SenderKind<'_>, receiver: &Item) -> bool
-    ensures { Decides result ((StaysNative (sender_kind from.now) receiver.now → ⊥)
-        × GivesDigit (MayGive (sender_kind from.now)) (IsBeyondFirst receiver.now)) }
+    ensures { Decides result (IsCutBefore (sender_kind from.now) receiver.now) }
 {
     !stays_native(from, receiver) && gives_before(from, receiver)
 }
