@@ -2,7 +2,6 @@
 
 ghost use Rattle.std.specs.Prelude.{◌≡◌, ◌<◌, ◌≤◌, ℕ, Bool, false, List, length, option_map, IfNone, IfSome, IsTrue};
 ghost use Rattle.std.specs.Bool.{OnTrue};
-ghost use Rattle.std.specs.Option.{IsNone};
 ghost use Rattle.cob_codec.specs.Binary.{binary_length, whole_digits};
 ghost use Rattle.cob_codec.specs.Naturals.{IsNaturalOf};
 ghost use Rattle.cob_codec.specs.declared.flaw.NumberFlaw.TheVariants.{Part};
@@ -424,9 +423,10 @@ fn native_flaw(item: &Item, bytes: &[u8]) -> Option<NumberFlaw>
     requires number { IsNumberItem item.now }
     requires kind { storage_kind item.now ≡ kind.Native }
     requires long { length bytes.now ≡ item_size item.now }
-    ensures nothing { IsNone result }
-    ensures none { (negative : Bool) × (digits : List ℕ)
-        × Represents item.now bytes.now negative digits }
+    ensures found { IfSome result (IsFlawOf item.now bytes.now) }
+    ensures steady { IfNone result (is_read_whole (storage_kind item.now) ≡ false) }
+    ensures none { IfNone result ((negative : Bool) × (digits : List ℕ)
+        × Represents item.now bytes.now negative digits) }
 {
     // All bytes represent a number.
     let _ = Native::read(&item.shape(), bytes);
