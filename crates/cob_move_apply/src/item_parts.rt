@@ -42,7 +42,7 @@ pub(crate) fn has_part(part: Option<ItemPart>, length: u32) -> bool
 }
 
 /// The place of an operand that needs no count, so that it is the same in every storage; None where it needs one.
-pub(crate) fn fixed_operand(layout: &Layout, entry: &Ref, receiving: bool) -> Option<Place>
+pub fn fixed_operand(layout: &Layout, entry: &Ref, receiving: bool) -> Option<Place>
     requires operand { IsOperand layout.now (operand_in layout.now entry.now) }
     ensures fixed { IfSome result (λ p. ReadsNone layout.now entry.now.node receiving) }
     ensures value { IfSome result (λ p. operand_under (greatest_counts layout.now) layout.now
