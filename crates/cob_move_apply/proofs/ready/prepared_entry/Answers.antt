@@ -14,9 +14,9 @@ pub prepare-requires : goal.prepare-requires
 prepare-requires c =
     let r : Records = records_between c.args.both.now in
     let described = subst (λ (t : Forest Resolved). IsRecordDescription t) c.layout_of-sending.ensures c.greatest.ensures.record in
-    occupied c.args.side r c.args.sent.now c.args.receiver.now c.in-Some.places c.get.result.now c.get-2.result.now
+    occupied c.args.side r c.args.sent.now c.args.receiver.now c.in-Some.places c.get.result.now c.get-in-Some.result.now
     (c.records_are_sound.ensures (record_of r c.args.side) described) (c.records_are_sound.ensures c.args.both.now.output.now c.greatest-2.ensures.record) c.requires.sent c.requires.receiver c.in-Some.ensures
-    ((c.get.ensures ∙ c.entry_kind-sends.ensures) ∙ ap (λ (t : Forest Resolved). (operand_in t c.args.sent.now).kind) c.layout_of-sending.ensures) (c.get-2.ensures ∙ c.entry_kind-receives.ensures)
+    ((c.get.ensures ∙ c.entry_kind-sends.ensures) ∙ ap (λ (t : Forest Resolved). (operand_in t c.args.sent.now).kind) c.layout_of-sending.ensures) (c.get-in-Some.ensures ∙ c.entry_kind-receives.ensures)
 
 pub returns-in-Some-2-clause-step : goal.returns-in-Some-2-clause-step
 returns-in-Some-2-clause-step c = λ x.
@@ -24,5 +24,5 @@ returns-in-Some-2-clause-step c = λ x.
     let described = subst (λ (t : Forest Resolved). IsRecordDescription t) c.layout_of-sending.ensures c.greatest.ensures.record in
     let is = rw c.in-Some-2.is at c.in_ok-step.ensures.step in
     prepared c.operands_lie_in_storage.ensures c.args.side r c.prepare.new.self c.in-Some-2.step c.args.sent.now c.args.receiver.now c.in-Some.places
-    c.get.result.now c.get-2.result.now x described c.requires.sent c.in-Some.ensures
-    ((c.get.ensures ∙ c.entry_kind-sends.ensures) ∙ ap (λ (t : Forest Resolved). (operand_in t c.args.sent.now).kind) c.layout_of-sending.ensures) (c.get-2.ensures ∙ c.entry_kind-receives.ensures) is
+    c.get.result.now c.get-in-Some.result.now x described c.requires.sent c.in-Some.ensures
+    ((c.get.ensures ∙ c.entry_kind-sends.ensures) ∙ ap (λ (t : Forest Resolved). (operand_in t c.args.sent.now).kind) c.layout_of-sending.ensures) (c.get-in-Some.ensures ∙ c.entry_kind-receives.ensures) is
