@@ -2,6 +2,7 @@
 use Rattle.std.proofs.Common.{◌≡◌, ℕ, ◌+◌, ◌-◌, ◌<◌, ◌≤◌, List, refl, sym, ap, subst, ◌∙◌, arith, Option, Some, None, Ok, Err, Result}
 use Rattle.std.specs.Prelude.{option_map, IfSome}
 use Rattle.cob_copybook_tree.specs.declared.node.Kind.{Kind}
+use Rattle.cob_copybook_tree.specs.declared.node.Kind.TheVariants.{Item as ItemKind}
 use Rattle.cob_copybook_tree.specs.Forests.{Forest}
 use Rattle.cob_copybook_tree.specs.Nodes.{Resolved}
 use Rattle.cob_picture.proofs.CharactersPicture.{characters_size}
@@ -19,7 +20,9 @@ use Rattle.cob_layout_places.specs.Parts.{CharactersAreBytes, CharactersAreFew, 
 use Rattle.cob_layout_places.specs.declared.reference.ItemPart.{ItemPart}
 use Rattle.cob_layout_places.specs.declared.reference.Ref.{Ref}
 use Rattle.cob_move_data.specs.declared.operands.Operand.{Operand}
-use Rattle.cob_move_data.specs.Moves.{IsOperand, kind_of_part, or_group}
+use Rattle.cob_move_data.specs.declared.operands.Side.{Side}
+use Rattle.cob_move_data.specs.declared.operands.Side.TheVariants.{In, Out}
+use Rattle.cob_move_data.specs.Moves.{IsOperand, Records, item_of_characters, kind_of_part, or_group, record_of}
 use Rattle.cob_move_receive.specs.Sent.{Occupies}
 use Rattle.cob_move_apply.specs.Located.{OperandsLieInStorage, StandsUnder, part_place, part_placed}
 
@@ -82,3 +85,22 @@ few_characters law t r (Some p) fit (n, has, is) = (is.some, omega (arith, is.fi
 -- what the entry describes, as the operand has it
 pub kind_there : (t : Forest Resolved) (r : Ref) (k : Kind) → kind_in r.node t ≡ Some k → k ≡ or_group (kind_in r.node t)
 kind_there t r k is = sym (ap or_group is)
+
+-- what the characters of a part describe
+abbrev pub part_describes : ItemPart → Kind
+part_describes p = ItemKind (item_of_characters p.length)
+
+-- so it is held
+pub held : (part : Option ItemPart) (k x : Kind) → Some k ≡ option_map part_describes part → k ≡ kind_of_part part x
+held None k x e = absurd cc
+held (Some p) k x e = let same : k ≡ part_describes p = cc in same
+
+-- and nothing where no part is meant
+pub not_held : (part : Option ItemPart) (x : Kind) → None ≡ option_map part_describes part → kind_of_part part x ≡ x
+not_held None x e = refl
+not_held (Some p) x e = absurd cc
+
+-- what holds of both records holds of the record of a side
+pub of_both : (P : Forest Resolved → Type 0) (side : Side) (r : Records) → P r.input → P r.output → P (record_of r side)
+of_both P In r a b = a
+of_both P Out r a b = b

@@ -28,7 +28,7 @@ use Rattle.cob_limits.specs.Limits.{longest_record}
 use Rattle.cob_layout.specs.Storage.{greatest_length}
 use Rattle.cob_move_data.specs.declared.operands.Side.{Side}
 use Rattle.cob_move_data.specs.declared.operands.Operand.{Operand}
-use Rattle.cob_layout_places.specs.Parts.{CharactersAreBytes}
+use Rattle.cob_layout_places.specs.Parts.{CharactersAreBytes, IsPartIn, characters_in}
 use Rattle.cob_move_data.specs.Moves.{IsOperand, kind_of_part}
 use Rattle.cob_move_apply.specs.declared.basis.Basis.{Basis}
 use Rattle.cob_move_apply.specs.declared.basis.Basis.TheVariants as basis
@@ -107,13 +107,13 @@ pub found_at : (side : Side) (t : Forest Resolved) (receiving : Bool) (o : Opera
 found_at side t receiving o bytes r whole p is cut found = cut_at side t receiving o bytes whole p cut (subst (IsFound t o.entry receiving bytes) is found)
 
 -- the element that is found has the part that is meant
-pub found_has : CharactersAreBytes → (t : Forest Resolved) (receiving : Bool) (o : Operand) (bytes : List ℕ) (r : Result Place FindFault) (whole : Place) → IsOperand t o → r ≡ Ok whole → IsFound t o.entry receiving bytes r → HasIt o.entry.part whole.length
-found_has law t receiving o bytes r whole operand is found =
+pub found_has : CharactersAreBytes → (t : Forest Resolved) (receiving : Bool) (r : Ref) (bytes : List ℕ) (x : Result Place FindFault) (whole : Place) → IsPartIn (characters_in r.node t) r.part → x ≡ Ok whole → IsFound t r receiving bytes x → HasIt r.part whole.length
+found_has law t receiving r bytes x whole parted is found =
     let (counts, needs, stands) = the_found is found in
-    has_it law t o.entry o.entry.part counts whole operand.parted stands
+    has_it law t r r.part counts whole parted stands
   where
-    the_found : r ≡ Ok whole → IsFound t o.entry receiving bytes r → IsFound t o.entry receiving bytes (Ok whole)
-    the_found e f = subst (IsFound t o.entry receiving bytes) e f
+    the_found : x ≡ Ok whole → IsFound t r receiving bytes x → IsFound t r receiving bytes (Ok whole)
+    the_found e f = subst (IsFound t r receiving bytes) e f
 
 no_place : (side : Side) (t : Forest Resolved) (receiving : Bool) (o : Operand) (bytes : List ℕ) (f : FindFault) → IsFound t o.entry receiving bytes (Err f)
     → Located side t receiving o bytes (Err (stop_of side f))

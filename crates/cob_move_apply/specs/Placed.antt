@@ -50,17 +50,17 @@ abbrev pub IsBasis : Forest Resolved → Bool → Operand → Basis → Type 0
 IsBasis tree receiving o (basis.Noted n) = IsNoted tree receiving o n
 IsBasis tree receiving o (basis.Counted s) = IfSome s (IsSummedPlace tree o.entry receiving)
 
--- the element of an operand stands somewhere in a storage, and the operand, all of it or a part, there, within the record
-pub record IsCutThere (tree : Forest Resolved) (receiving : Bool) (o : Operand) (bytes : List ℕ) (p : Place) : Type 0 where
+-- the element of a reference stands somewhere in a storage, and all of it, or the part that is meant, there, within the record
+pub record IsCutThere (tree : Forest Resolved) (receiving : Bool) (r : Ref) (bytes : List ℕ) (p : Place) : Type 0 where
   pub whole : Place
-  pub found : IsFound tree o.entry receiving bytes (Ok whole)
-  pub cut : p ≡ part_place o.entry.part whole
+  pub found : IsFound tree r receiving bytes (Ok whole)
+  pub cut : p ≡ part_place r.part whole
   pub within : p.offset + p.length ≤ greatest_length tree
 
 -- what is noted of an operand's place, and the counts that are kept of a storage, say that it is this
 abbrev pub StandsAsNoted : Forest Resolved → Bool → Operand → (bytes : List ℕ) → List (Option StoredCount) → Basis → Place → Type 0
 StandsAsNoted tree receiving o bytes ks (basis.Noted n) p = (p ≡ n.place) × HaveSoMany ks n.least
-StandsAsNoted tree receiving o bytes ks (basis.Counted s) p = IsCutThere tree receiving o bytes p
+StandsAsNoted tree receiving o bytes ks (basis.Counted s) p = IsCutThere tree receiving o.entry bytes p
 
 -- this is a place that is noted, and the count that is kept says that the operand is there
 abbrev pub IsNotedIn : Basis → List (Option StoredCount) → Place → Type 0

@@ -43,8 +43,9 @@
 //! [`Moves::apply`] takes no memory: its room is a [`Scratch`]. [`entry_kind`] is what an operand of a record describes, and [`entry_below`] the entry of a
 //! pair of two groups, for whoever goes through the moves by themselves; [`Given`] is what a sender gives.
 //!
-//! An operand is an element of a record, or a part of one: an item of its characters, which stands where [`part_place`] cuts it from its element. What has no
-//! part stands where its element does ([`whole_stands`]); an operand that sends lies within the bytes of its storage ([`operands_lie_in_storage`]).
+//! An operand is an element of a record, or a part of one: an item of its characters, which stands where [`part_place`] cuts it from its element;
+//! [`fixed_operand`] is its place where it needs no count. What has no part stands where its element does ([`whole_stands`]); an operand that sends lies
+//! within the bytes of its storage ([`operands_lie_in_storage`]).
 //!
 //! # Where it is proved
 //!
@@ -52,7 +53,8 @@
 //! `Moves::with_reading`, `Moves::statements` and `Moves::reading`; the clauses of `Moves::apply_kept`, `Scratch::input_length`, `Scratch::output_length`,
 //! `Scratch::forget_output` and `Scratch::forget_input`: the same by counts that are kept from the length of the input on to that of the output (`keeps`, by
 //! `AreKeptOf`); the clauses of `MarkedMoves::new`, `with_reading`, `statements`, `reading`, `single_moves`, `steps`, `marks`, `apply_all`,
-//! `apply_between` and `spare`, and of `PlacedEntry::new`, `side`, `entry` and `place`; which stop the fault of a place is (`stop_of`); the law `one_ending`.
+//! `apply_between` and `spare`, and of `PlacedEntry::new`, `side`, `entry`, `kind` and `place`; which stop the fault of a place is (`stop_of`); where a part stands
+//! (`part_place`, `fixed_operand`); the laws `one_ending`, `operands_lie_in_storage`, `whole_stands`.
 #![tactic(auto)]
 
 mod application;

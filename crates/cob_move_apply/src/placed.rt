@@ -22,6 +22,7 @@ use crate::scratch::Scratch;
 use crate::stop::Stop;
 use crate::survey::Survey;
 use cob_layout::{Kind, Layout, Place, Ref, records_are_sound};
+use cob_layout_places::characters_are_few;
 use cob_move_data::{Side, part_kind};
 
 /// What the place of an entry of the record of a side rests on, where it is read.
@@ -65,6 +66,11 @@ impl PlacedEntry {
         ensures entry { result.entry ≡ entry }
         ensures placed { IsPlacedEntry (record { input = input.now; output = output.now }) result }
     {
+        // For what a part asks: it has no more characters than the longest record.
+        characters_are_few();
+        records_are_sound();
+        let _ = input.greatest();
+        let _ = output.greatest();
         let basis = basis_in(side, &entry, input, output);
         let part = part_kind(entry.part);
         PlacedEntry {

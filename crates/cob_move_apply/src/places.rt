@@ -3,7 +3,9 @@
 ghost use Rattle.std.specs.Prelude.{◌≡◌, ◌+◌, ◌≤◌, IfOk, IfSome, Ok, Err};
 ghost use Rattle.cob_layout.specs.Sound.{IsSound};
 ghost use Rattle.cob_layout.specs.Storage.{greatest_length};
-ghost use Rattle.cob_move_data.specs.Moves.{IsOperand, operand_in};
+ghost use Rattle.cob_layout_places.specs.Parts.{IsPartIn, characters_in};
+ghost use Rattle.cob_layout_places.specs.References.{Refers};
+ghost use Rattle.cob_move_data.specs.Moves.{IsOperand};
 ghost use Rattle.cob_move_receive.specs.Sent.{Occupies};
 ghost use Rattle.cob_move_apply.specs.Located.{Located, stop_of};
 ghost use Rattle.cob_layout.specs.Elements.{HaveSoMany};
@@ -125,13 +127,14 @@ fn place_by_sums(
     counts: &Counts,
 ) -> Option<Place>
     requires sound { IsSound stored.now.layout.now }
-    requires operand { IsOperand stored.now.layout.now (operand_in stored.now.layout.now entry.now) }
+    requires refers { Refers entry.now.node entry.now.subscripts.items stored.now.layout.now }
+    requires parted { IsPartIn (characters_in entry.now.node stored.now.layout.now) entry.now.part }
     requires room { IsRoomFor stored.now.layout.now counts.now }
     requires kept { KeepsOf stored.now.layout.now stored.now.bytes.now counts.now }
     requires summed { IfSome summed.now
         (IsSummedPlace stored.now.layout.now entry.now receiving) }
-    ensures { IfSome result (IsCutThere stored.now.layout.now receiving
-        (operand_in stored.now.layout.now entry.now) stored.now.bytes.now) }
+    ensures { IfSome result (IsCutThere stored.now.layout.now receiving entry.now
+        stored.now.bytes.now) }
 {
     match summed {
         Some(summed) => {

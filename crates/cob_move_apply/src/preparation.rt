@@ -1,11 +1,8 @@
 //! What the places of operands rest on, found before a record comes.
 
-ghost use Rattle.std.specs.Prelude.{Bool, map, true, false, IfSome, OnOk};
+ghost use Rattle.std.specs.Prelude.{◌≡◌, ◌<◌, map, true, false, IfSome, OnOk};
 ghost use Rattle.std.specs.List.{AllByRecursion};
-ghost use Rattle.cob_copybook_tree.specs.Forests.{Forest};
-ghost use Rattle.cob_copybook_tree.specs.Nodes.{Resolved};
 ghost use Rattle.cob_layout.specs.Elements.{IsElementPlace};
-ghost use Rattle.cob_move_data.specs.declared.operands.Operand.{Operand};
 ghost use Rattle.cob_move_data.specs.Moves.{
   IsOperand,
   IsSender,
@@ -20,7 +17,18 @@ use cob_layout::{ElementPlace, Layout, Ref, records_are_sound};
 use cob_move_data::{Sender, Side};
 use std::alloc::AllocError;
 
-/// What the place of an operand rests on whose element is there by one count. None where that needs more elements than 16 bits tell: no table has as many.
+/// A number of elements that isn't 0, if 16 bits tell it: no table has more.
+fn some_elements(number: u32) -> Option<u16>
+    ensures { IfSome result (λ least. (least ≡ number) × (0 < least)) }
+{
+    match u16::try_from(number) {
+        Ok(least) if least > 0 => Some(least),
+        _ => None,
+    }
+}
+
+/// What the place of an operand rests on whose element is there by one count. None where that needs more elements than 16 bits tell, and where the element hasn't
+/// the part that is meant.
 fn element_basis(
     layout: &Layout,
     entry: &Ref,
@@ -36,13 +44,9 @@ fn element_basis(
     if !has_part(entry.part, element.place.length) {
         return None;
     }
-    match u16::try_from(element.least) {
-        Ok(least) if least > 0 => Some(Basis::Noted(NotedPlace {
-            place: part_place(entry.part, element.place),
-            least,
-        })),
-        _ => None,
-    }
+    let least = some_elements(element.least)?;
+    let place = part_place(entry.part, element.place);
+    Some(Basis::Noted(NotedPlace { place, least }))
 }
 
 /// What an operand's place rests on.

@@ -6,12 +6,12 @@ use Rattle.cob_move_apply.proofs.places.place_if_there.Goals as goal
 
 pub returns-in-Ok-clause-located : goal.returns-in-Ok-clause-located
 returns-in-Ok-clause-located c =
-    found_at c.args.stored.now.side c.args.stored.now.layout.now c.args.receiving (operand_of c.args.operand.now) c.args.stored.now.bytes.now c.find.result c.in-Ok.whole c.part_place.result c.in-Ok.is c.part_place.ensures.value c.find.ensures.found
+    found_at c.args.stored.now.side c.args.stored.now.layout.now c.args.receiving (operand_of c.args.operand.now) c.args.stored.now.bytes.now c.find.result c.in-Ok.whole c.part_place-place.result c.in-Ok.is c.part_place-place.ensures.value c.find.ensures.found
 
 pub returns-in-Ok-clause-filled : goal.returns-in-Ok-clause-filled
 returns-in-Ok-clause-filled c =
-    filled_at c.args.stored.now.side c.args.stored.now.layout.now c.args.receiving (operand_of c.args.operand.now) c.args.stored.now.bytes.now c.part_place.result c.requires.sound c.requires.operand
-    (found_at c.args.stored.now.side c.args.stored.now.layout.now c.args.receiving (operand_of c.args.operand.now) c.args.stored.now.bytes.now c.find.result c.in-Ok.whole c.part_place.result c.in-Ok.is c.part_place.ensures.value c.find.ensures.found)
+    filled_at c.args.stored.now.side c.args.stored.now.layout.now c.args.receiving (operand_of c.args.operand.now) c.args.stored.now.bytes.now c.part_place-place.result c.requires.sound c.requires.operand
+    (found_at c.args.stored.now.side c.args.stored.now.layout.now c.args.receiving (operand_of c.args.operand.now) c.args.stored.now.bytes.now c.find.result c.in-Ok.whole c.part_place-place.result c.in-Ok.is c.part_place-place.ensures.value c.find.ensures.found)
 
 pub returns-in-Ok-clause-spends : goal.returns-in-Ok-clause-spends
 returns-in-Ok-clause-spends c =
@@ -27,8 +27,8 @@ returns-in-Err-Subscript-clause-spends c =
     past_spends laws c.args.stored.now.layout.now c.args.stored.now.bytes.now (operand_of c.args.operand.now) c.args.receiving c.args.survey.now new c.find.result c.in-Err-Subscript.field-0 c.in-Err-Subscript.field-0-0 c.in-Err-Subscript.is c.in-Err-Subscript.field-0-is
     c.requires.sound c.requires.operand c.requires.survey c.find.ensures.kept c.find.ensures.reads
 
-pub part_place-requires : goal.part_place-requires
-part_place-requires c = record {
-  part = found_has c.characters_are_bytes.ensures c.args.stored.now.layout.now c.args.receiving (operand_of c.args.operand.now) c.args.stored.now.bytes.now c.find.result c.in-Ok.whole c.requires.operand c.in-Ok.is c.find.ensures.found;
+pub part_place-place-requires : goal.part_place-place-requires
+part_place-place-requires c = record {
+  part = found_has c.characters_are_bytes.ensures c.args.stored.now.layout.now c.args.receiving c.args.operand.now.entry.now c.args.stored.now.bytes.now c.find.result c.in-Ok.whole c.requires.operand.parted c.in-Ok.is c.find.ensures.found;
   short = short_record c.args.stored.now.layout.now c.requires.sound c.in-Ok.whole (rw c.in-Ok.is at c.find.ensures.fits);
 }

@@ -4,7 +4,8 @@ use Rattle.cob_move_data.specs.declared.operands.Sender as code
 use Rattle.cob_move_data.specs.declared.operands.Side.TheVariants.{Out}
 use Rattle.cob_move_data.specs.Moves.{sender_by}
 use Rattle.cob_move_receive.specs.Sent as sent
-use Rattle.cob_move_apply.specs.Applied.{Content, Gives}
+use Rattle.cob_move_apply.specs.Applied.{Content, Gives, IsMoved, ending}
+use Rattle.cob_move_apply.specs.Promised.{sender_move}
 use Rattle.cob_move_apply.specs.Seen.{receivers_in}
 use Rattle.cob_move_apply.specs.Surveyed.{records}
 use Rattle.cob_move_apply.proofs.SpendingLemmas.{given_spends}
@@ -17,3 +18,8 @@ returns-in-Constant-clause-spends c =
     let content : Content = record { sent = sent.Literal (plain_value c.in-Constant.value); side = Out; offset = 0 } in
     given_spends r (sender_by x r c.args.given.now) (receivers_in c.args.layouts.now.output.now c.args.receivers.now) content c.args.input.now c.args.output.now c.receive_all.result c.receive_all.new.output _ _
     (subst (λ (s : code.Sender). Gives r (sender_by x r s) c.args.input.now c.args.output.now (Ok content)) (sym c.in-Constant.is) refl) c.receive_all.ensures.spends
+
+pub returns-in-Entry-clause-moved : goal.returns-in-Entry-clause-moved
+returns-in-Entry-clause-moved c =
+    let end = ending c.move_entry.result c.move_entry.new.output in
+    subst (λ (s : code.Sender). IsMoved (records c.args.layouts.now) (sender_move c.args.layouts.now s c.args.receivers.now) c.args.input.now c.args.output.now end) (sym c.in-Entry.is) c.move_entry.ensures.moved

@@ -1,13 +1,23 @@
-use Rattle.std.proofs.Common.{◌≡◌, ◌∙◌, [], ◌∷◌, ap, arith, length, take}
+use Rattle.std.proofs.Common.{◌≡◌, ◌∙◌, [], ◌∷◌, ap, arith, length, subst, sym, take}
 use Rattle.std.proofs.lemmas.Result.{err_from_is_err_and}
+use Rattle.cob_copybook_tree.specs.declared.node.Kind.{Kind}
+use Rattle.cob_move_receive.specs.Sent.{Occupies}
 use Rattle.cob_move_data.specs.declared.operands.Side.TheVariants.{Out}
 use Rattle.cob_move_apply.specs.Applied.{ending}
 use Rattle.cob_move_apply.specs.Surveyed.{records}
-use Rattle.cob_move_apply.proofs.ReceiverLemmas.{front_is, stops_first, moved}
+use Rattle.cob_move_apply.proofs.ReceiverLemmas.{complete, front_is, stops_first, moved}
 use Rattle.cob_move_apply.specs.Seen.{operand_of, receivers_in}
 use Rattle.cob_move_data.specs.Moves.{Entry, Move}
 use Rattle.cob_move_apply.proofs.SpendingLemmas.{entry_spends, spends_after, stopped_spends}
 use Rattle.cob_move_apply.proofs.senders.move_within_output.Goals as goal
+
+pub receive_all-requires-clause-given : goal.receive_all-requires-clause-given
+receive_all-requires-clause-given c =
+    let size : c.args.space.now.content.len ≡ length c.copy_field.new.content =
+    omega (arith, c.args.space.now.content.ok.0, c.copy_field.auto.content, ap length c.as_mut_slice.ensures.value) in
+    complete c.get.result.now c.in_ok-place.place c.args.output.now (take c.in_ok-place.place.length c.as_slice.result.now)
+    (subst (λ (k : Kind). Occupies k c.in_ok-place.place.length) (sym c.get.ensures) c.in_ok-place.ensures.filled) (omega (arith, c.in_ok-place.ensures.fits, c.requires.output))
+    (ap (take c.in_ok-place.place.length) (c.as_slice.ensures.value ∙ front_is c.args.space.now.content.len c.copy_field.new.content _ size) ∙ c.copy_field.ensures)
 
 pub returns-in_err-place-clause-moved : goal.returns-in_err-place-clause-moved
 returns-in_err-place-clause-moved c =
