@@ -6,9 +6,6 @@ use Rattle.cob_codec.specs.declared.reading.Reading.{Reading}
 use Rattle.cob_copybook_tree.specs.Forests.{Forest}
 use Rattle.cob_copybook_tree.specs.Nodes.{Resolved}
 use Rattle.cob_layout.specs.Fields.{field_of}
-use Rattle.cob_layout.specs.Laws.{LieInStorage}
-use Rattle.cob_layout.specs.Placed.{placed_under}
-use Rattle.cob_layout_places.specs.Parts.{CharactersAreBytes}
 use Rattle.cob_copybook.specs.Books.{IsRecordDescription}
 use Rattle.cob_layout.specs.Storage.{IsStorage}
 use Rattle.cob_layout.specs.declared.fields.Place.{Place}
@@ -18,13 +15,12 @@ use Rattle.cob_move_receive.specs.Sent.{Entry, HasAllBytes, Occupies, Sent}
 use Rattle.cob_move_condition.specs.declared.condition.Condition.{Condition}
 use Rattle.cob_move_apply.specs.Applied.{content_at, storage_of}
 use Rattle.cob_move_apply.specs.Entries.{IsPlacedEntry}
-use Rattle.cob_move_apply.specs.Located.{Located, stop_at}
+use Rattle.cob_move_apply.specs.Located.{Located, OperandsLieInStorage, stop_at}
 use Rattle.cob_move_apply.specs.Reads.{ReadsFor}
 use Rattle.cob_move_apply.specs.Room.{Scratching}
 use Rattle.cob_move_apply.specs.declared.placed.PlacedEntry.{PlacedEntry}
 use Rattle.cob_move_apply.specs.declared.stop.Stop.{Stop}
 use Rattle.cob_move_apply.specs.declared.stop.StopCause.TheVariants.{NoValue}
-use Rattle.cob_move_apply.proofs.ItemPartLemmas.{has_it, part_within, whole_of}
 use Rattle.cob_move_apply.proofs.ReadsLemmas.{most_kept_among}
 use Rattle.cob_move_apply.proofs.ReceiverLemmas.{complete}
 use Rattle.cob_move_apply.proofs.SpentLemmas.{allowed_none}
@@ -45,16 +41,12 @@ gives_at r e reading input output side p s is there same = (
   subst (λ (d : Side). s ≡ Entry (operand_in (record_of r d) e.entry).kind (field_of p (storage_of d input output)) reading) (sym is) same,
 )
 
--- they lie within it: those of its element do, and a part lies within its element
-pub lies_within : LieInStorage → CharactersAreBytes → (r : Records) (e : PlacedEntry) (input output : List ℕ) (side : Side) (p : Place) → e.side ≡ side → IsPlacedEntry r e
-    → StandsThere r e input output (Ok p) → IsRecordDescription (record_of r side) → IsStorage (record_of r side) (storage_of side input output) → p.offset + p.length ≤ length (storage_of side input output)
-lies_within law characters r e input output side p is placed (counts, needs, stands) =
-    let tree : Forest Resolved = record_of r e.side in
-    let (whole, found, cut) = whole_of e.entry.part (placed_under counts tree e.entry) p stands in
-    let within = part_within e.entry.part whole (has_it characters tree e.entry e.entry.part counts whole placed.operand.parted found) in
+-- they lie within it
+pub lies_within : OperandsLieInStorage → (r : Records) (e : PlacedEntry) (input output : List ℕ) (side : Side) (p : Place) → e.side ≡ side → IsPlacedEntry r e → StandsThere r e input output (Ok p)
+    → IsRecordDescription (record_of r side) → IsStorage (record_of r side) (storage_of side input output) → p.offset + p.length ≤ length (storage_of side input output)
+lies_within law r e input output side p is placed (counts, needs, stands) =
     subst (λ (d : Side). IsRecordDescription (record_of r d) → IsStorage (record_of r d) (storage_of d input output) → p.offset + p.length ≤ length (storage_of d input output)) is
-    (λ description storage. subst (λ (q : Place). q.offset + q.length ≤ length (storage_of e.side input output)) (sym cut)
-    (omega (arith, within, law tree (storage_of e.side input output) counts e.entry.node e.entry.subscripts.items whole description storage placed.operand.refers needs found)))
+    (λ description storage. law (record_of r e.side) (storage_of e.side input output) counts (operand_in (record_of r e.side) e.entry) p description storage placed.operand needs stands)
 
 -- and are all that it has
 pub all_bytes_at : (r : Records) (e : PlacedEntry) (reading : Reading) (input output : List ℕ) (side : Side) (p : Place) (s : Sent) → e.side ≡ side → Occupies (operand_in (record_of r e.side) e.entry).kind p.length

@@ -13,8 +13,6 @@ use Rattle.cob_copybook_entry.specs.Described.{PlainValue, plain_value}
 use Rattle.cob_copybook_tree.specs.declared.node.Kind.{Kind}
 use Rattle.cob_copybook_tree.specs.declared.node.Kind.TheVariants.{Group, Item as ItemKind}
 use Rattle.cob_layout.specs.Fields.{field_of}
-use Rattle.cob_layout.specs.Laws.{LieInStorage}
-use Rattle.cob_layout_places.specs.Parts.{CharactersAreBytes}
 use Rattle.cob_layout.specs.Storage.{IsStorage, greatest_length}
 use Rattle.cob_layout.specs.declared.fields.Place.{Place}
 use Rattle.cob_move_data.specs.declared.operands.Side.{Side}
@@ -31,6 +29,7 @@ use Rattle.cob_move_condition.specs.declared.condition.Condition.{Condition}
 use Rattle.cob_move_constants.specs.LaidOut.{IsLaidOut}
 use Rattle.cob_move_apply.specs.Applied.{storage_of}
 use Rattle.cob_move_apply.specs.Entries.{IsPlacedEntry}
+use Rattle.cob_move_apply.specs.Located.{OperandsLieInStorage}
 use Rattle.cob_move_apply.specs.declared.placed.PlacedEntry.{PlacedEntry}
 use Rattle.cob_move_deeds.specs.Flows.{sender_placed}
 use Rattle.cob_move_deeds.specs.Giving.{constant_gives}
@@ -59,10 +58,10 @@ plain_compared kind bytes reading c laid n plain long is =
     (bytes, is.text, (plain_gives kind bytes reading plain, subst (λ (k : ℕ). GivesConstant c k is.text) (sym long) is.gives), is.same bytes)
 
 -- the place of such a test lies within the storage
-pub test_within : LieInStorage → CharactersAreBytes → (r : Records) (entries : List PlacedEntry) (c : Condition) (t : TextTest) (input output : List ℕ) (test : IsTextTest r entries c t) → IsPlacedEntry r test.entry
+pub test_within : OperandsLieInStorage → (r : Records) (entries : List PlacedEntry) (c : Condition) (t : TextTest) (input output : List ℕ) (test : IsTextTest r entries c t) → IsPlacedEntry r test.entry
     → IsRecordDescription (record_of r t.side) → IsStorage (record_of r t.side) (storage_of t.side input output) → t.place.offset + t.place.length ≤ length (storage_of t.side input output)
-test_within law characters r entries c t input output test placed description storage =
-    lies_within law characters r test.entry input output t.side t.place (sym test.side) placed (test.stands.place test.entry.side (storage_of test.entry.side input output)) description storage
+test_within law r entries c t input output test placed description storage =
+    lies_within law r test.entry input output t.side t.place (sym test.side) placed (test.stands.place test.entry.side (storage_of test.entry.side input output)) description storage
 
 -- its answer is what the condition says
 pub test_says : (r : Records) (entries : List PlacedEntry) (reading : Reading) (c : Condition) (t : TextTest) (input output : List ℕ) (holds : Bool) → IsTextTest r entries c t
@@ -143,10 +142,10 @@ either_side P a b In = a
 either_side P a b Out = b
 
 -- the place of such a test lies within the storage of its side, where both storages are those of their records
-pub test_in_storage : LieInStorage → CharactersAreBytes → (r : Records) (entries : List PlacedEntry) (c : Condition) (t : TextTest) (input output : List ℕ) (test : IsTextTest r entries c t) → IsPlacedEntry r test.entry
+pub test_in_storage : OperandsLieInStorage → (r : Records) (entries : List PlacedEntry) (c : Condition) (t : TextTest) (input output : List ℕ) (test : IsTextTest r entries c t) → IsPlacedEntry r test.entry
     → IsRecordDescription r.input → IsRecordDescription r.output → IsStorage r.input input → length output ≡ greatest_length r.output
     → t.place.offset + t.place.length ≤ length (storage_of t.side input output)
-test_in_storage law characters r entries c t input output test placed of_input of_output first other =
+test_in_storage law r entries c t input output test placed of_input of_output first other =
     let P : Side → Type 0 = λ (s : Side). IsRecordDescription (record_of r s) × IsStorage (record_of r s) (storage_of s input output) in
     let both : (s : Side) → P s = either_side P (of_input, first) (of_output, inl other) in
-    test_within law characters r entries c t input output test placed (both t.side).0 (both t.side).1
+    test_within law r entries c t input output test placed (both t.side).0 (both t.side).1

@@ -27,9 +27,8 @@ use crate::laws::tests_are_one;
 use crate::ready::ReadyDeeds;
 use crate::row::{behind, behind_skip, first_moves};
 use crate::sides::Sides;
-use cob_layout::{one_outcome_of_counts, places_lie_in_storage};
-use cob_layout_places::characters_are_bytes;
-use cob_move_apply::{Scratch, Stop, one_ending};
+use cob_layout::one_outcome_of_counts;
+use cob_move_apply::{Scratch, Stop, one_ending, operands_lie_in_storage};
 use cob_move_condition::says;
 
 /// How many turns a loop has up to a number.
@@ -296,9 +295,8 @@ fn ready_says(deeds: &ReadyDeeds, number: usize, sides: &Sides<'_>, output: &[u8
         (Holds (condition_of (sender_at (records_of_sides sides.now) (flow_support deeds.now)) c))
         sides.now.input.now output.now (Ok holds)) }
 {
-    // A place that is the same in every storage lies within it, that of a part within its element.
-    places_lie_in_storage();
-    characters_are_bytes();
+    // A place that is the same in every storage lies within it.
+    operands_lie_in_storage();
     let _ = sides.input_layout.greatest();
     let _ = sides.output_layout.greatest();
     let test = deeds.ready_test(number)?;

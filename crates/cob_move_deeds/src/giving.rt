@@ -22,9 +22,10 @@ ghost use Rattle.cob_move_deeds.specs.Prepared.{kind_placed};
 ghost use Rattle.cob_move_deeds.specs.Tests.{GivesIn, LacksIn};
 
 use crate::sides::Sides;
-use cob_layout::{Layout, Place, one_outcome_of_counts, places_lie_in_storage, records_are_sound};
-use cob_layout_places::characters_are_bytes;
-use cob_move_apply::{PlacedEntry, Reading, Scratch, Stop, StopCause, field};
+use cob_layout::{Layout, Place, one_outcome_of_counts, records_are_sound};
+use cob_move_apply::{
+    PlacedEntry, Reading, Scratch, Stop, StopCause, field, operands_lie_in_storage,
+};
 use cob_move_condition::Operands;
 use cob_move_data::Side;
 use cob_move_receive::Sent;
@@ -93,9 +94,7 @@ fn give_entry<'a>(
         (λ _. ReadsOnToStop sides.now.output_layout.now scratch.old scratch.new) }
 {
     records_are_sound();
-    // For `bytes`: an element lies within its storage, and has a byte for each character of a part.
-    places_lie_in_storage();
-    characters_are_bytes();
+    operands_lie_in_storage();
     let _ = sides.input_layout.greatest();
     let _ = sides.output_layout.greatest();
     let place = entry.place(

@@ -10,3 +10,4 @@ pub mod PartnerLemmas
 pub mod NumberLemmas
 pub mod KeptLemmas
 pub mod ValuedLemmas
+pub mod FindLemmas

@@ -192,14 +192,14 @@ of_side records side mine o p e f h = subst (λ (s : Side). IsOperand (record_of
 
 -- an entry of the records with subscripts is an operand
 pub of_candidate : RecordsAreSound → (records : Records) (c : Candidate) (texts : List (List ℕ)) → IsRecordDescription records.input → IsRecordDescription records.output
-    → IsIn c (all_entries records.input records.output) → AreSubscriptsOf c.entry.tables texts → IsOperand (record_of records c.entry.side) (operand c (subscript_numbers texts))
+    → IsIn c (all_entries records.input records.output) → AreSubscriptsOf c.entry.tables texts → IsOperand (record_of records c.entry.side) (operand c (subscript_numbers texts) None)
 of_candidate sound records c texts input output o h =
-    let p : Operand = operand c (subscript_numbers texts) in
+    let p : Operand = operand c (subscript_numbers texts) None in
     elim (one_of c (candidates In [] [] records.input) (candidates Out [] [] records.output) o) [
       | inl x ↦ (let s = stands In [] 0 [] records.input c (sound records.input input).numbered x in
-          of_side records c.entry.side In p p (sym s.side_is) refl (operand_in In records.input c texts s h))
+          of_side records c.entry.side In p p (sym s.side_is) refl (operand_in In records.input c texts None s h tt))
       | inr x ↦ (let s = stands Out [] 0 [] records.output c (sound records.output output).numbered x in
-          of_side records c.entry.side Out p p (sym s.side_is) refl (operand_in Out records.output c texts s h))
+          of_side records c.entry.side Out p p (sym s.side_is) refl (operand_in Out records.output c texts None s h tt))
     ]
 
 pub are_operands : RecordsAreSound → NamedAreOperands

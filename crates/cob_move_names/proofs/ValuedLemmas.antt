@@ -26,7 +26,7 @@ use Rattle.cob_move_names.specs.Candidates.{Candidate, RecordEntry, all_entries,
 use Rattle.cob_move_names.specs.Laws.{ItemsAreOperands}
 use Rattle.cob_move_names.specs.Listed.{AreInOrder, ListsMore, ListsValues, candidate_of, valued_of}
 use Rattle.cob_move_names.specs.declared.valued.ValuedEntry.{ValuedEntry as ListedValued}
-use Rattle.cob_move_names.specs.declared.candidate.RecordEntry.{RecordEntry as ListedEntry}
+use Rattle.cob_move_names.specs.declared.record_entry.RecordEntry.{RecordEntry as ListedEntry}
 use Rattle.cob_move_names.specs.References.{AreSubscriptsOf, entry_operand, subscript_numbers}
 use Rattle.cob_move_names.specs.Valued.{AreOfEntries, PlainConditionNames, ValuedEntry, all_values, entry_with, named_value, named_values, same_side, valued, valued_by}
 use Rattle.cob_move_names.specs.Values.{ValuedOperand}
@@ -319,9 +319,9 @@ put_operand side first more o = record { side = side; operand = o; first = first
 -- ---- operands
 
 of_item : RecordsAreSound → (records : Records) (e : RecordEntry) (texts : List (List ℕ)) → IsRecordDescription records.input → IsRecordDescription records.output
-    → IsItemOf (all_entries records.input records.output) e → AreSubscriptsOf e.tables texts → IsOperand (record_of records e.side) (entry_operand e (subscript_numbers texts))
+    → IsItemOf (all_entries records.input records.output) e → AreSubscriptsOf e.tables texts → IsOperand (record_of records e.side) (entry_operand e (subscript_numbers texts) None)
 of_item sound records e texts input output (c, o, is) h =
-    subst (λ (x : RecordEntry). IsOperand (record_of records x.side) (entry_operand x (subscript_numbers texts))) (sym is)
+    subst (λ (x : RecordEntry). IsOperand (record_of records x.side) (entry_operand x (subscript_numbers texts) None)) (sym is)
     (of_candidate sound records c texts input output o (subst (λ (x : RecordEntry). AreSubscriptsOf x.tables texts) is h))
 
 pub items_are_operands : RecordsAreSound → ItemsAreOperands

@@ -2,12 +2,10 @@
 use Rattle.std.specs.Prelude.{◌≡◌, ◌+◌, ℕ, List, [], ◌∷◌, ◌++◌, map}
 use Rattle.cob_copybook_conditions.specs.Names.{plain_span}
 use Rattle.cob_copybook_tree.specs.declared.node.Node.TheViews.{out-Node}
-use Rattle.cob_copybook_tree.specs.Nodes.{forest}
-use Rattle.cob_layout_places.specs.Parts.{characters_of}
 use Rattle.cob_copybook_names.specs.declared.bearer.Bearer.{Bearer as Listed}
 use Rattle.cob_copybook_names.specs.Listed.{bearer_by}
 use Rattle.cob_copybook_names.specs.Naming.{Bearer}
-use Rattle.cob_move_names.specs.declared.candidate.RecordEntry.{RecordEntry as ListedEntry}
+use Rattle.cob_move_names.specs.declared.record_entry.RecordEntry.{RecordEntry as ListedEntry}
 use Rattle.cob_move_names.specs.declared.valued.ValuedEntry.{ValuedEntry as ListedValued}
 use Rattle.cob_move_names.specs.Candidates.{Candidate, RecordEntry}
 use Rattle.cob_move_names.specs.Valued.{ValuedEntry}
@@ -19,7 +17,7 @@ listed_record_entry e = record {
   number = (out-Node e.entry.now).number;
   tables = e.tables.items;
   kind = (out-Node e.entry.now).kind;
-  characters = characters_of (out-Node e.entry.now).kind (forest (out-Node e.entry.now).children.items);
+  characters = e.characters;
 }
 
 -- A listed entry, with its names.

@@ -58,12 +58,16 @@ abbrev pub HasPart : ℕ → Option WrittenPart → Type 0
 HasPart characters None = Unit {0}
 HasPart characters (Some p) = IsSubscriptOf characters p.start × IsLengthOf (characters + 1 - subscript_number p.start) p.length
 
--- An entry with subscripts, or a part of it.
-abbrev pub entry_operand : RecordEntry → List ℕ → Option WrittenPart → Operand
-entry_operand e subscripts part = record {
-  entry = record { node = e.number; subscripts = record { items = subscripts }; part = part_meant e.characters part };
-  kind = kind_of_part (part_meant e.characters part) e.kind;
+-- An element of an entry, or a part of it.
+abbrev pub element_operand : RecordEntry → List ℕ → Option ItemPart → Operand
+element_operand e subscripts part = record {
+  entry = record { node = e.number; subscripts = record { items = subscripts }; part = part };
+  kind = kind_of_part part e.kind;
 }
+
+-- An entry with subscripts, and the part of it that is written, if one is.
+abbrev pub entry_operand : RecordEntry → List ℕ → Option WrittenPart → Operand
+entry_operand e subscripts part = element_operand e subscripts (part_meant e.characters part)
 
 -- The same of an entry with its names.
 abbrev pub operand : Candidate → List ℕ → Option WrittenPart → Operand

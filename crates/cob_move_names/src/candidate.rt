@@ -8,33 +8,18 @@ ghost use Rattle.cob_copybook_names.specs.Listed.{texts};
 ghost use Rattle.cob_layout.specs.Sound.{AreNested, own_dimension};
 ghost use Rattle.cob_layout_places.specs.Places.{is_table};
 ghost use Rattle.cob_layout_places.specs.Lengths.{MayOccur};
-ghost use Rattle.cob_layout_places.specs.Parts.{AreMeasured};
+ghost use Rattle.cob_layout_places.specs.Parts.{AreMeasured, characters_of};
 ghost use Rattle.cob_limits.specs.Limits.{longest_record, most_dimensions};
 ghost use Rattle.cob_move_names.specs.Candidates.{candidate, candidates, with_table};
 ghost use Rattle.cob_move_names.specs.Listed.{ListsMore};
 
+use crate::record_entry::{CandidateTables, RecordEntry};
 use arrayvec::ArrayVec;
 use cob_copybook_names::{Bearer, name_of, names_beneath};
 use cob_layout::{Node, is_table};
-use cob_limits::MAX_SUBSCRIPTS;
+use cob_layout_places::characters_of;
 use cob_move_data::Side;
 use std::alloc::{AllocError, Global};
-
-/// The greatest numbers of tables, one within the other, the outermost first.
-type CandidateTables = ArrayVec<u32, MAX_SUBSCRIPTS>;
-
-/// An entry of one of the two records.
-#[derive(Drop)]
-pub(crate) struct RecordEntry<'a> {
-    pub side: Side,
-    pub entry: &'a Node,
-    /// The tables that hold it or that it is.
-    pub tables: CandidateTables,
-
-    pub ghost possible: { MayOccur (tree_of entry.now) },
-    pub ghost short: { whole_length greatest_number (node entry.now).top (node entry.now).beneath
-        ≤ longest_record },
-}
 
 /// The tables that hold an entry, and itself if it is one.
 fn tables_of(entry: &Node, holding: &[u32]) -> CandidateTables
@@ -51,6 +36,17 @@ fn tables_of(entry: &Node, holding: &[u32]) -> CandidateTables
         tables.push(entry.occurs.most());
     }
     tables
+}
+
+/// How many characters an element of an entry has of which a part may be named.
+fn characters_here(entry: &Node) -> u32
+    requires possible { MayOccur (tree_of entry.now) }
+    requires small { whole_length greatest_number (node entry.now).top (node entry.now).beneath ≤
+        longest_record }
+    ensures value { result ≡ characters_of (out-Node entry.now).kind (forest (out-Node entry.now).children.items) }
+    ensures short { result ≤ longest_record }
+{
+    characters_of(entry)
 }
 
 /// Puts an entry behind those that are listed.
@@ -81,6 +77,7 @@ fn list_entry<'a>(
             side,
             entry,
             tables,
+            characters: characters_here(entry),
         },
     })?;
     Ok(())

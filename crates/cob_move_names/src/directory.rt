@@ -4,8 +4,8 @@ ghost use Rattle.std.specs.Prelude.{map};
 ghost use Rattle.cob_move_names.specs.Listed.{candidate_of, valued_of};
 ghost use Rattle.cob_move_names.specs.Valued.{AreOfEntries};
 
-use crate::candidate::RecordEntry;
 use crate::qualifiers::QualifierWords;
+use crate::record_entry::RecordEntry;
 use crate::valued::ValuedEntry;
 use cob_copybook_names::{Bearer, Directory, NameFault};
 use cob_move_statements::MoveRule;

@@ -1,9 +1,8 @@
 //! What a written reference names.
 
-ghost use Rattle.std.specs.Prelude.{◌≡◌, ◌<◌, ◌+◌, ◌-◌, ◌≤◌, ◌×◌, ℕ, [], None, Some, IfErr, IfNone, IfOk, IfSome, IsOkAnd, OnOk, option_map};
+ghost use Rattle.std.specs.Prelude.{◌≡◌, ◌<◌, ◌+◌, ◌-◌, ◌≤◌, ℕ, [], None, Some, IfErr, IfNone, IfOk, IfSome, IsOkAnd, OnOk, option_map};
 ghost use Rattle.cob_source.specs.Tokens.{lexemes};
 ghost use Rattle.cob_limits.specs.Limits.{longest_record};
-ghost use Rattle.cob_move_data.specs.Moves.{kind_of_part};
 ghost use Rattle.cob_move_data.specs.declared.operands.Operand.{Operand as SeenOperand};
 ghost use Rattle.cob_move_data.specs.declared.operands.Side.TheVariants.{Out};
 ghost use Rattle.cob_move_statements.specs.Written.{word_texts, written_part, written_reference};
@@ -11,19 +10,20 @@ ghost use Rattle.cob_copybook_conditions.specs.Names.{plain_condition_names};
 ghost use Rattle.cob_move_names.specs.Candidates.{all_entries, candidates};
 ghost use Rattle.cob_move_names.specs.Directory.{FindsOnly, entries_named, operand_with_values, values_named};
 ghost use Rattle.cob_move_names.specs.Listed.{ListsMore, ListsValues, listed_record_entry};
-ghost use Rattle.cob_move_names.specs.References.{AreSubscriptsOf, BreaksReceiver, BreaksReference, HasPart, IsLengthOf, NamesOperand, length_meant, part_meant, subscript_numbers};
+ghost use Rattle.cob_move_names.specs.References.{AreSubscriptsOf, BreaksReceiver, BreaksReference, HasPart, IsLengthOf, NamesOperand, element_operand, length_meant, part_meant, subscript_numbers};
 ghost use Rattle.cob_move_names.specs.Valued.{all_values, named_values, plain_names};
 ghost use Rattle.cob_move_names.specs.Values.{BreaksValues, NamesValues, conditions_of};
 
-use crate::candidate::{RecordEntry, list_tree};
+use crate::candidate::list_tree;
 use crate::directory::Names;
+use crate::record_entry::RecordEntry;
 use crate::subscripts::{read_subscripts, subscript_of};
 use crate::valued::{ConditionNames, ValuedEntry, list_values};
 use arrayvec::ArrayVec;
 use cob_copybook_conditions::{ConditionName, Span};
 use cob_copybook_names::Bearer;
 use cob_layout::{Layout, Ref, records_are_sound};
-use cob_layout_places::{ItemPart, characters_of, entries_are_measured};
+use cob_layout_places::{ItemPart, entries_are_measured};
 use cob_limits::MAX_SUBSCRIPTS;
 use cob_move_data::{Operand, Side, kind_of_part};
 use cob_move_statements::{MoveRule, Reference, ReferencePart};
@@ -70,9 +70,9 @@ fn length_of(written: Option<&[u8]>, left: u32) -> Option<u32>
     requires some { 0 < left }
     ensures short { IfSome result (λ n. (0 < n) × (n ≤ left)) }
     ensures found { (start characters : ℕ) → left ≡ characters + 1 - start → IfSome result
-        (λ n. n ≡ length_meant characters start (option_map (λ t. t.now) written)) }
-    ensures yes { IfSome result (λ _. IsLengthOf left (option_map (λ t. t.now) written)) }
-    ensures no { IfNone result (IsLengthOf left (option_map (λ t. t.now) written) → ⊥) }
+        (λ n. n ≡ length_meant characters start (option_map (λ t. t.now) written.entry)) }
+    ensures yes { IfSome result (λ _. IsLengthOf left (option_map (λ t. t.now) written.entry)) }
+    ensures no { IfNone result (IsLengthOf left (option_map (λ t. t.now) written.entry) → ⊥) }
 {
     match written {
         None => Some(left),
@@ -95,10 +95,7 @@ fn part_within(characters: u32, written: &ReferencePart<'_>) -> Option<ItemPart>
 }
 
 /// The part that is meant of an entry, if one is, and the entry has it.
-fn part_of(
-    named: &RecordEntry<'_>,
-    written: &Option<ReferencePart<'_>>,
-) -> Option<Option<ItemPart>>
+fn part_of(named: &RecordEntry<'_>, written: &Option<ReferencePart<'_>>) -> Option<Option<ItemPart>>
     ensures found { IfSome result (λ p. p ≡ part_meant (listed_record_entry named.now).characters
         (option_map written_part written.now)) }
     ensures short { IfSome result (λ o. IfSome o (λ p. (0 < p.length) × (p.length ≤ longest_record))) }
@@ -110,7 +107,7 @@ fn part_of(
     match written {
         None => Some(None),
         Some(part) => {
-            let part = part_within(characters_of(named.entry), part)?;
+            let part = part_within(named.characters, part)?;
             Some(Some(part))
         }
     }
@@ -123,8 +120,7 @@ fn operand_of(
     part: Option<ItemPart>,
 ) -> Operand
     requires { IfSome part (λ p. (0 < p.length) × (p.length ≤ longest_record)) }
-    ensures entry { result.entry ≡ record { node = (listed_record_entry named.now).number; subscripts = subscripts; part = part } }
-    ensures kind { result.kind ≡ kind_of_part part (listed_record_entry named.now).kind }
+    ensures { result ≡ element_operand (listed_record_entry named.now) subscripts.items part }
 {
     Operand {
         entry: Ref {
@@ -154,8 +150,9 @@ fn list_record<'a>(
     ensures values { OnOk result (ListsValues values.old.items values.new.items
         (named_values (candidates side [] [] layout.now) (plain_condition_names names.now))) }
 {
-    // For what `list_tree` and `list_values` ask: a record description is sound.
+    // For what `list_tree` and `list_values` ask: a record description is sound, and no entry of one is longer than a record.
     records_are_sound();
+    entries_are_measured();
     let before = entries.len();
     list_tree(alloc, side, &[], &[], layout.root(), entries)?;
     let (_, own) = entries.as_slice().split_at(before);
@@ -198,7 +195,6 @@ impl<'a> Names<'a> {
     {
         // For what `listed` asks: the entries of a record description are numbered in order,
         records_are_sound();
-        entries_are_measured();
         // and both layouts are those of record descriptions.
         let _ = input.root();
         let _ = output.root();

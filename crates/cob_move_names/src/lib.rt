@@ -2,22 +2,24 @@
 //!
 //! # References
 //!
-//! What a written reference means in two records (ANSI X3.23-1985, Nucleus: qualification and subscripting).
+//! What a written reference means in two records (ANSI X3.23-1985, Nucleus: qualification and subscripting; reference modification).
 //!
 //! A statement names an entry of the input record or of the output record by its name, with qualifiers (OF or IN) where several entries
-//! bear the name, and with a subscript for each table that holds the entry or that it is. [`Names`] is the directory of the entries of both
-//! records by name, made once for a paragraph, and [`Names::find`] answers the operand that a reference names.
+//! bear the name, and with a subscript for each table that holds the entry or that it is. It may name a part of the entry's characters, by where it starts and how
+//! long it is. [`Names`] is the directory of the entries of both records by name, made once for a paragraph, and [`Names::find`] answers the operand that a
+//! reference names.
 //!
 //! What is promised:
 //!
 //! - [`Names::of`] has the entries of both records (`all_entries` of specs/Candidates.antt, which the view `entries_named` shows).
 //! - [`Names::find`] answers what a reference names (`found`, `NamesOperand` of specs/References.antt): of all entries of the two records exactly
-//!   one has the name with these qualifiers, and each of its tables has a subscript, a literal of at most 31 digits, from 1 to its greatest number.
+//!   one has the name with these qualifiers, and each of its tables has a subscript, a literal of at most 31 digits, from 1 to its greatest number. If a part
+//!   is written, its first and its last character are some of the element's (`HasPart`), and the operand is that part.
 //!   What a reference names is found (`only`), and a refusal names a rule that is broken (`fault`, `BreaksReference`). Neither takes memory.
 //! - [`Names::find_receiver`] does the same in the output record: a receiver that stands in the input record is refused (`BreaksReceiver`).
 //! - [`Names::find_values`] answers the condition-name that a reference names, with its item and its values, if it names one (`found`, `NamesValues` of
 //!   specs/Values.antt): of all entries and condition-names of the two records exactly one has the name with these qualifiers, a condition-name, and the
-//!   subscripts are those of the item's tables. Where nothing is found no condition-name is named (`none`), and a refusal names a rule that is broken (`fault`,
+//!   subscripts are those of the item's tables; no part is written. Where nothing is found no condition-name is named (`none`), and a refusal names a rule that is broken (`fault`,
 //!   `BreaksValues`). [`Names::with_conditions`] has the condition-names of two copybooks (`all_values` of specs/Valued.antt, which the view `values_named`
 //!   shows), [`Names::of`] has none. Laws: the item is an operand of its record ([`items_are_operands`]), a reference names the values of one condition at
 //!   most ([`one_valued`]) and then breaks no rule ([`valued_break_no_rule`]).
@@ -73,6 +75,7 @@ mod pair_list;
 mod pairing;
 mod partners;
 mod qualifiers;
+mod record_entry;
 mod sending;
 mod subordinate;
 mod subscripts;

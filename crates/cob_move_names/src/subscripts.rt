@@ -44,6 +44,7 @@ fn number_within(text: &[u8], most: u32) -> Option<u32>
 pub(crate) fn subscript_of(text: &[u8], most: u32) -> Option<u32>
     ensures found { IfSome result (λ n. IsSubscriptOf most text.now) }
     ensures value { IfSome result (λ n. n ≡ subscript_number text.now) }
+    ensures short { IfSome result (λ n. (0 < n) × (n ≤ most)) }
     ensures none { IfNone result (IsSubscriptOf most text.now → ⊥) }
 {
     if text.len() > MAX_DIGITS {

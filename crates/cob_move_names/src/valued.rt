@@ -7,7 +7,7 @@ ghost use Rattle.cob_copybook_names.specs.Naming.{with_name};
 ghost use Rattle.cob_move_names.specs.Listed.{AreInOrder, ListsValues, candidate_of, listed_record_entry};
 ghost use Rattle.cob_move_names.specs.Valued.{named_value, named_values, valued};
 
-use crate::candidate::RecordEntry;
+use crate::record_entry::RecordEntry;
 use cob_copybook_conditions::{ConditionName, Span};
 use cob_copybook_names::Bearer;
 use std::alloc::{AllocError, Global};
@@ -36,6 +36,7 @@ fn same_entry<'a>(entry: &RecordEntry<'a>) -> Result<RecordEntry<'a>, AllocError
         side: entry.side,
         entry: entry.entry,
         tables,
+        characters: entry.characters,
     })
 }
 

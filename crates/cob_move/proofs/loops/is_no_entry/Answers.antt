@@ -1,4 +1,4 @@
-use Rattle.std.proofs.Common.{◌≡◌, [], true, false}
+use Rattle.std.proofs.Common.{◌≡◌, [], None, true, false}
 use Rattle.cob_move_names.specs.Directory.{entries_named}
 use Rattle.cob_move_statements.specs.Written.{WrittenReference}
 use Rattle.cob_move.proofs.LoopLemmas.{entry_unknown, named_entry, unknown_entry}

@@ -10,7 +10,7 @@ holds-requires-clause-within c =
     let entries = d.asked.entries.items in
     let (k, at) = some_condition d.asked.conditions.items c.args.number c.requires.there in
     let test = c.in_ok-test.ensures r k c.requires.prepared at in
-    test_in_storage c.places_lie_in_storage.ensures c.characters_are_bytes.ensures r entries k c.in_ok-test.test.now c.args.sides.now.input.now c.args.output.now test
+    test_in_storage c.operands_lie_in_storage.ensures r entries k c.in_ok-test.test.now c.args.sides.now.input.now c.args.output.now test
     (all_placed r entries test.number test.entry c.requires.prepared.asked.entries test.at) c.greatest.ensures.record c.greatest-2.ensures.record c.requires.input c.requires.output
 
 pub holds-requires-clause-long : goal.holds-requires-clause-long
@@ -25,6 +25,6 @@ returns c = λ k at.
     let d = c.args.deeds.now in
     let test = c.in_ok-test.ensures r k c.requires.prepared at in
     test_says r d.asked.entries.items d.moves.moves.reading k c.in_ok-test.test.now c.args.sides.now.input.now c.args.output.now c.holds.result test
-    (test_in_storage c.places_lie_in_storage.ensures c.characters_are_bytes.ensures r d.asked.entries.items k c.in_ok-test.test.now c.args.sides.now.input.now c.args.output.now test
+    (test_in_storage c.operands_lie_in_storage.ensures r d.asked.entries.items k c.in_ok-test.test.now c.args.sides.now.input.now c.args.output.now test
     (all_placed r d.asked.entries.items test.number test.entry c.requires.prepared.asked.entries test.at) c.greatest.ensures.record c.greatest-2.ensures.record c.requires.input c.requires.output)
     c.holds.ensures

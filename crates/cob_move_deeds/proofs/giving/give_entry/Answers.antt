@@ -16,7 +16,7 @@ returns-in-In-clause-bytes c =
     let r : Records = records_of_sides c.args.sides.now in
     let is : c.args.entry.now.side ≡ In = sym c.side.ensures ∙ c.in-In.is in
     all_bytes_at r c.args.entry.now c.args.reading c.args.sides.now.input.now c.args.output.now In c.in_ok-place.place (sent c.sent_at.result) is c.in_ok-place.ensures.filled
-    (lies_within c.places_lie_in_storage.ensures c.characters_are_bytes.ensures r c.args.entry.now c.args.sides.now.input.now c.args.output.now In c.in_ok-place.place is c.requires.placed c.in_ok-place.ensures.located c.greatest.ensures.record c.requires.input)
+    (lies_within c.operands_lie_in_storage.ensures r c.args.entry.now c.args.sides.now.input.now c.args.output.now In c.in_ok-place.place is c.requires.placed c.in_ok-place.ensures.located c.greatest.ensures.record c.requires.input)
     c.sent_at.ensures
 
 pub returns-in-Out-clause-gives : goal.returns-in-Out-clause-gives

@@ -1,15 +1,21 @@
-use Rattle.std.proofs.Common.{◌≡◌, List, [], drop, subst, ◌∙◌}
+use Rattle.std.proofs.Common.{◌≡◌, List, [], drop, sym, subst, ◌∙◌}
 use Rattle.std.specs.Prelude.{OnOk}
 use Rattle.cob_copybook_conditions.specs.Names.{plain_condition_names}
 use Rattle.cob_copybook_names.specs.declared.bearer.Bearer.{Bearer as Listed}
 use Rattle.cob_copybook_tree.specs.Forests.{Forest}
-use Rattle.cob_copybook_tree.specs.Nodes.{Resolved}
-use Rattle.cob_move_names.specs.declared.candidate.RecordEntry.{RecordEntry as ListedEntry}
+use Rattle.cob_copybook_tree.specs.Nodes.{Resolved, tree_of}
+use Rattle.cob_layout.specs.Sound.{IsSound}
+use Rattle.cob_move_names.specs.declared.record_entry.RecordEntry.{RecordEntry as ListedEntry}
 use Rattle.cob_move_names.specs.Candidates.{Candidate, candidates}
 use Rattle.cob_move_names.specs.Listed.{ListsMore, ListsValues}
 use Rattle.cob_move_names.specs.Valued.{named_values}
 use Rattle.cob_move_names.proofs.ValuedLemmas.{added_are, added_in_order}
 use Rattle.cob_move_names.proofs.find.list_record.Goals as goal
+
+pub list_tree-requires : goal.list_tree-requires
+list_tree-requires c =
+    let sound : IsSound (tree_of c.root.result.now) = subst IsSound (sym c.root.ensures.tree) (c.records_are_sound.ensures c.args.layout.now c.root.ensures.record) in
+    record { nested = sound.nested; possible = sound.fit.possible; measured = c.entries_are_measured.ensures (tree_of c.root.result.now) sound.fit }
 
 pub list_values-requires : goal.list_values-requires
 list_values-requires c =
