@@ -36,7 +36,7 @@ returns-in-Err-clause-located c =
 
 pub part_place-requires : goal.part_place-requires
 part_place-requires c = record {
-  part = found_has c.characters_are_bytes.ensures c.args.stored.now.layout.now c.args.receiving (operand_in c.args.stored.now.layout.now c.args.entry.now) c.args.stored.now.bytes.now
-      c.find.result c.in-Ok.whole c.requires.operand c.in-Ok.is c.find.ensures.found;
+  part = found_has c.characters_are_bytes.ensures c.args.stored.now.layout.now c.args.receiving c.args.entry.now c.args.stored.now.bytes.now c.find.result c.in-Ok.whole c.requires.operand.parted
+      c.in-Ok.is c.find.ensures.found;
   short = short_record c.args.stored.now.layout.now c.requires.sound c.in-Ok.whole (rw c.in-Ok.is at c.find.ensures.fits);
 }
