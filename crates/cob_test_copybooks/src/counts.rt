@@ -1,5 +1,9 @@
 //! The counts of tables.
 
+ghost use Rattle.std.specs.Prelude.{◌≤◌, [], ◌∷◌};
+ghost use Rattle.cob_copybook_tree.specs.Branches.{forest_of};
+ghost use Rattle.cob_copybook_tree.specs.Forests.{entries_in};
+
 use crate::refusal::Refusal;
 use crate::trees::tree_of;
 use cob_copybook_names::counts;
@@ -19,7 +23,9 @@ fn push_counts(out: &mut TextBuffer, counts: &[Option<usize>]) {
 }
 
 /// Writes the number of the count of each entry of a tree, or the rule that the entries break.
-fn push_counts_of(alloc: Global, tree: &Branch, out: &mut TextBuffer) {
+fn push_counts_of(alloc: Global, tree: &Branch, out: &mut TextBuffer)
+    requires few { entries_in (forest_of (tree.now ∷ [])) ≤ 65535 }
+{
     match counts(alloc, tree) {
         Ok(counts) => push_counts(out, counts.as_slice()),
         Err(fault) => write!(out, "{fault}"),
