@@ -47,10 +47,10 @@ first_counts Group false o os s sending rest same mark none more = behind (more 
   where
     behind : AreCounted os s sending rest → AreCounted (o ∷ os) s sending rest
     behind (inl (any, e)) = inl (inr any, e)
-    behind (inr (not, e)) = inr (
+    behind (inr (none_later, e)) = inr (
       λ any. elim any [
         | inl h ↦ subst (λ (k : Kind). TakesAnyhow k s) same h
-        | inr h ↦ not h
+        | inr h ↦ none_later h
       ],
       e,
     )

@@ -361,17 +361,21 @@ loop_count r on l b v input before after items prepared is at same gives below m
 
 -- ---- what a watcher counted
 
+on_ok : {A : Type 0} (x y : Reading) (r : Records) (ss : List StatementMoves) (ms : List Move) (input before after : List ℕ) (ones : List Single) (answer : Result A MoveStop) → x ≡ y → ms ≡ moves_by y r ss
+    → AreOfMoves x r (numbered_moves 0 ss) input before ones (each_ending answer after) → OnOk answer (MovesCount r ms input before after (counted_of ones))
+on_ok x y r ss ms input before after ones (Ok v) same are h =
+    subst (λ (ns : List Move). MovesCount r ns input before after (counted_of ones)) (ap (λ (z : Reading). moves_by z r ss) same ∙ sym are) (statements_count x r ss input before after ones h)
+on_ok x y r ss ms input before after ones (Err stop) same are h = tt
+
 -- it saw single moves, and counted what is counted of them
 pub statements_counted : {A : Type 0} (x y : Reading) (r : Records) (ss : List StatementMoves) (ms : List Move) (input before after : List ℕ) (answer : Result A MoveStop) (old begun new : Kept) → x ≡ y → ms ≡ moves_by y r ss
     → begun ≡ old → Sees begun new (λ ones. AreOfMoves x r (numbered_moves 0 ss) input before ones (each_ending answer after))
     → CountsOnOk answer old new (MovesCount r ms input before after)
-statements_counted x y r ss ms input before after answer old begun new same are begins (ones, grown, seen) =
-    (counted_of ones, ap counts_kept grown ∙ ap (λ (k : Kept). counts_behind (counts_kept k) (counted_of ones)) begins, on_ok answer seen)
-  where
-    on_ok : (a : Result _ MoveStop) → AreOfMoves x r (numbered_moves 0 ss) input before ones (each_ending a after) → OnOk a (MovesCount r ms input before after (counted_of ones))
-    on_ok (Ok v) h =
-        subst (λ (ns : List Move). MovesCount r ns input before after (counted_of ones)) (ap (λ (z : Reading). moves_by z r ss) same ∙ sym are) (statements_count x r ss input before after ones h)
-    on_ok (Err stop) h = tt
+statements_counted x y r ss ms input before after answer old begun new same are begins (ones, grown, seen) = (
+  counted_of ones,
+  ap counts_kept grown ∙ ap (λ (k : Kept). counts_behind (counts_kept k) (counted_of ones)) begins,
+  on_ok x y r ss ms input before after ones answer same are seen,
+)
 
 -- nothing was counted
 pub none_counted : (o : Option Counts) → o ≡ counts_behind o []

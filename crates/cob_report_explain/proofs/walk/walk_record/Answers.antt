@@ -19,17 +19,17 @@ returns-in-Err-written_part-clause-stops g c = record {
 
 pub returns-in-Err-clause-counts : goal.returns-in-Err-clause-counts
 returns-in-Err-clause-counts g c =
-    let (items, grown, none) = rw c.in-Err.is at c.walk_deeds.ensures.counts in
+    let (items, grown, none) = c.in-Err.ensures.counts in
     (items, grown, tt)
 
 pub returns-in-Err-written_part-clause-counts : goal.returns-in-Err-written_part-clause-counts
 returns-in-Err-written_part-clause-counts g c =
-    let (items, grown, made) = c.walk_deeds.ensures.counts in
+    let (items, grown, made) = c.in-Ok.ensures.counts in
     (items, grown, tt)
 
 pub returns-in-Ok-written_part-clause-counts : goal.returns-in-Ok-written_part-clause-counts
 returns-in-Ok-written_part-clause-counts g c =
-    let (items, grown, made) = rw c.in-Ok.is at c.walk_deeds.ensures.counts in (
+    let (items, grown, made) = c.in-Ok.ensures.counts in (
       items,
       grown,
       record {
