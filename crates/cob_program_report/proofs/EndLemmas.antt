@@ -26,3 +26,8 @@ ends_lacking (Some rejects) atomic fault end lacks ends = inl (HasFault fault (i
 pub ends_reported : (plain : Status → Type 0) (status end : Status) → plain status → (end ≡ status) ⊎ LacksReport end → EndsReported (plain end) end
 ends_reported plain status end ends (inl same) = inl (subst plain (sym same) ends)
 ends_reported plain status end ends (inr lacks) = inr lacks
+
+-- what ends as something that ends as a third ends as that
+pub ends_behind : (told status end : Status) → EndsAs told status → EndsAs status end → EndsAs told end
+ends_behind told status end one (inl same) = subst (EndsAs told) (sym same) one
+ends_behind told status end one (inr device) = inr device
