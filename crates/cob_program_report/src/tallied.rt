@@ -89,6 +89,23 @@ fn convert_told<R: AllocGlobal + Files + Input + Print + Eprint + Clock>(
     tell_tally(rt, beside, &counted, status)
 }
 
+/// Converts by these texts, where they are refused by none of their rules, and counts.
+fn tallied_by<R: AllocGlobal + Files + Input + Print + Eprint + Clock>(
+    rt: &R,
+    line: &ConvertLine<'_>,
+    explain: bool,
+    texts: &ReadTexts,
+) -> Status
+    requires in_block { HasBlockSize line.now.forms.input }
+    requires out_block { HasBlockSize line.now.forms.output }
+    ensures { EndsConvert line.now.rejects line.now.atomic result }
+{
+    match counting_of(rt, line, texts) {
+        Ok(converter) => convert_told(rt, line, explain, converter),
+        Err(fault) => tell_fault(rt, fault),
+    }
+}
+
 /// Converts, prints what comes of it and how many values were read by any zones that strict zones refuse, by their items, and answers how the program ends.
 pub fn do_convert_tallied<R: AllocGlobal + Files + Input + Print + Eprint + Clock>(
     rt: &R,
@@ -100,10 +117,7 @@ pub fn do_convert_tallied<R: AllocGlobal + Files + Input + Print + Eprint + Cloc
     ensures { EndsConvert line.now.rejects line.now.atomic result }
 {
     match read_texts(rt, line) {
-        Ok(texts) => match counting_of(rt, line, &texts) {
-            Ok(converter) => convert_told(rt, line, explain, converter),
-            Err(fault) => tell_fault(rt, fault),
-        },
+        Ok(texts) => tallied_by(rt, line, explain, &texts),
         Err(fault) => tell_fault(rt, fault),
     }
 }
@@ -193,6 +207,23 @@ fn convert_reported<R: AllocGlobal + Files + Input + Print + Eprint + Clock>(
     }
 }
 
+/// Converts by these texts, where they are refused by none of their rules and the report can be made, and counts.
+fn reported_by<R: AllocGlobal + Files + Input + Print + Eprint + Clock>(
+    rt: &R,
+    line: &ConvertLine<'_>,
+    reported: Reported<'_>,
+    texts: &ReadTexts,
+) -> Status
+    requires in_block { HasBlockSize line.now.forms.input }
+    requires out_block { HasBlockSize line.now.forms.output }
+    ensures { EndsReported (EndsConvert line.now.rejects line.now.atomic result) result }
+{
+    match counting_of(rt, line, texts) {
+        Ok(converter) => convert_reported(rt, line, reported, texts, converter),
+        Err(fault) => tell_fault(rt, fault),
+    }
+}
+
 /// Converts and counts, prints what comes of it, and writes the report, and answers how the program ends.
 pub fn do_convert_tallied_reported<R: AllocGlobal + Files + Input + Print + Eprint + Clock>(
     rt: &R,
@@ -204,10 +235,7 @@ pub fn do_convert_tallied_reported<R: AllocGlobal + Files + Input + Print + Epri
     ensures { EndsReported (EndsConvert line.now.rejects line.now.atomic result) result }
 {
     match read_texts(rt, line) {
-        Ok(texts) => match counting_of(rt, line, &texts) {
-            Ok(converter) => convert_reported(rt, line, reported, &texts, converter),
-            Err(fault) => tell_fault(rt, fault),
-        },
+        Ok(texts) => reported_by(rt, line, reported, &texts),
         Err(fault) => tell_fault(rt, fault),
     }
 }
