@@ -126,9 +126,12 @@ pub fn do_convert_tallied<R: AllocGlobal + Files + Input + Print + Eprint + Cloc
 fn zones_told(alloc: Global, counted: &Counted) -> Result<Vec<ZonesTold>, AllocError> {
     let items = tally_of(counted).items(alloc)?;
     let mut told = Vec::new(alloc);
-    for counted in items {
-        let ItemCount { item, values } = counted;
-        told.push(ZonesTold { item, values })?;
+    for one in &items {
+        let ItemCount { item, values } = one;
+        told.push(ZonesTold {
+            item: format!(in alloc; "{item}")?,
+            values: *values,
+        })?;
     }
     Ok(told)
 }

@@ -26,7 +26,7 @@ use cob_report_explain::{Counting, ZoneCounts};
 use std::alloc::{AllocError, Global};
 
 /// How many records a run takes at most.
-const LIMIT: u64 = u64::MAX - 1;
+pub(crate) const LIMIT: u64 = u64::MAX - 1;
 
 /// A converter that counts the values that were read by any zones, with all that its runs need.
 #[derive(Drop)]
@@ -87,7 +87,7 @@ fn converted(
 
 /// Why a run is over.
 #[derive(Clone, Copy)]
-enum Over {
+pub(crate) enum Over {
     /// The input is at its end.
     Done,
     /// The next record stops it, or as many as a run takes came.
