@@ -1,6 +1,6 @@
 -- The items that INITIALIZE fills: those of a record, listed one behind another.
-use Rattle.std.proofs.Common.{◌≡◌, ℕ, zero, suc, ◌+◌, ◌-◌, ◌<◌, ◌≤◌, Bool, true, false, List, [], ◌∷◌, ◌++◌, get_or, length, refl, sym, ap, subst, ◌∙◌, inl, inr, append_assoc, append-nil, arith, Option, Some, None}
-use Rattle.std.specs.Prelude.{◌==◌, is_some, option_map}
+use Rattle.std.proofs.Common.{◌≡◌, ℕ, zero, suc, ◌+◌, ◌-◌, ◌<◌, ◌≤◌, Bool, true, false, List, [], ◌∷◌, ◌++◌, get_or, length, refl, sym, ap, subst, ◌∙◌, inl, inr, append_assoc, append-nil, arith, Ok, Err, Result, Option, Some, None}
+use Rattle.std.specs.Prelude.{◌==◌, OnOk, is_some, option_map}
 use Rattle.std.specs.List.{AllByRecursion}
 use Rattle.std.proofs.lemmas.Bool.Decides.{nat_tests}
 use Rattle.cob_copybook_tree.specs.declared.node.Item.{Item}
@@ -9,7 +9,7 @@ use Rattle.cob_copybook_tree.specs.declared.node.Kind.TheVariants.{Group, Item a
 use Rattle.cob_copybook_tree.specs.declared.node.Node.{Node}
 use Rattle.cob_copybook_tree.specs.declared.node.Node.TheViews.{out-Node}
 use Rattle.cob_copybook_tree.specs.Forests.{AnEntry, Forest, NoEntries, Tree}
-use Rattle.cob_copybook_tree.specs.Lengths.{greatest_number}
+use Rattle.cob_copybook_tree.specs.Lengths.{greatest_number, greatest_number_by}
 use Rattle.cob_copybook_tree.specs.Nodes.{Resolved, forest, node, resolved_entry}
 use Rattle.cob_layout_places.specs.Counts.{kind_in}
 use Rattle.cob_layout_places.specs.declared.reference.ItemPart.{ItemPart}
@@ -21,7 +21,7 @@ use Rattle.cob_layout_places.proofs.ForestLemmas.{left, left_end, left_is, node_
 use Rattle.cob_move_data.specs.Moves.{IsOperand, kind_of_part, operand_in, or_group}
 use Rattle.cob_move_loops.specs.Turns.{turns}
 use Rattle.cob_move_verbs.specs.declared.items.Filling.{Filling}
-use Rattle.cob_move_verbs.specs.Items.{fills, items_among, items_below, items_in_element, items_in_elements, items_of, own_item, unless_redefined}
+use Rattle.cob_move_verbs.specs.Items.{fills, items_among, items_below, items_in_element, items_in_elements, items_of, element_of, own_element, own_item, unless_redefined}
 use Rattle.cob_move_verbs.specs.Reading.{AddsItems, AreElements}
 
 -- ---- elements are operands
@@ -61,6 +61,10 @@ element_operand tree r none refers =
       parted = subst (λ (p : Option ItemPart). IsPartIn (characters_in r.node tree) p) (sym none) tt;
     }
 
+-- an element of an entry is known by its number and its subscripts
+pub same_element : (r : Ref) (number : ℕ) (subscripts : List ℕ) → r.node ≡ number → r.subscripts.items ≡ subscripts → r.part ≡ None → r ≡ element_of number subscripts
+same_element r number subscripts node is part = λ i. record { node = node i; subscripts = record { items = is i }; part = part i }
+
 -- ---- more items
 
 all_append : {A : Type 0} (P : A → Type 0) (xs ys : List A) → AllByRecursion P xs → AllByRecursion P ys → AllByRecursion P (xs ++ ys)
@@ -91,6 +95,30 @@ pub filler : (f : Filling) (name : Option (List ℕ)) (i : Item) (number : ℕ) 
 filler f None i number subscripts e = refl
 filler f (Some name) i number subscripts e = absurd (let never : Some name ≡ None = e in cc)
 
+pub own_none : (tree : Forest Resolved) (b : Bool) (number : ℕ) (subscripts : List ℕ) (old : List Ref) → b ≡ false → AddsItems tree (own_element b number subscripts) old old
+own_none tree b number subscripts old no = subst (λ (c : Bool). AddsItems tree (own_element c number subscripts) old old) (sym no) (adds_none tree old)
+
+pub own_some : (tree : Forest Resolved) (b : Bool) (number : ℕ) (subscripts : List ℕ) (old new : List Ref) → b ≡ true → AddsItems tree (element_of number subscripts ∷ []) old new → AddsItems tree (own_element b number subscripts) old new
+own_some tree b number subscripts old new yes adds = subst (λ (c : Bool). AddsItems tree (own_element c number subscripts) old new) (sym yes) adds
+
+pub without_name : (tree : Forest Resolved) (f : Filling) (n : Node) (i : Item) (subscripts : List ℕ) (old : List Ref) → (out-Node n).name ≡ None → AddsItems tree (own_item f (node n).top.name i (node n).top.number subscripts) old old
+without_name tree f n i subscripts old is =
+    adds_as tree [] (own_item f (node n).top.name i (node n).top.number subscripts) old old
+    (sym (filler f (node n).top.name i (node n).top.number subscripts (ap (λ (t : Tree Resolved). t.top.name) (node_out n) ∙ is))) (adds_none tree old)
+
+pub with_name : (tree : Forest Resolved) (f : Filling) (n : Node) (i : Item) (name : List ℕ) (subscripts : List ℕ) (old new : List Ref) → (out-Node n).name ≡ Some name
+    → AddsItems tree (own_element (fills f i) (out-Node n).number subscripts) old new → AddsItems tree (own_item f (node n).top.name i (node n).top.number subscripts) old new
+with_name tree f n i name subscripts old new is adds =
+    let named : (node n).top.name ≡ Some name = ap (λ (t : Tree Resolved). t.top.name) (node_out n) ∙ is in
+    let numbered : (node n).top.number ≡ (out-Node n).number = ap (λ (t : Tree Resolved). t.top.number) (node_out n) in
+    adds_as tree (own_element (fills f i) (out-Node n).number subscripts) (own_item f (node n).top.name i (node n).top.number subscripts) old new
+    (λ k. own_item f (sym named k) i (sym numbered k) subscripts) adds
+
+-- what holds where a reader says so holds where it answers
+pub on_ok : {A E : Type 0} {P Q : Type 0} (answer : Result A E) → (P → Q) → OnOk answer P → OnOk answer Q
+on_ok (Ok a) f p = f p
+on_ok (Err e) f p = tt
+
 -- ---- one element of an entry
 
 pub item_below : (tree : Forest Resolved) (f : Filling) (n : Node) (i : Item) (subscripts : List ℕ) (old new : List Ref) → (out-Node n).kind ≡ ItemKind i
@@ -108,6 +136,9 @@ group_below tree f n children subscripts old new is same adds =
     (subst (λ (g : Forest Resolved). AddsItems tree (items_among f subscripts g) old new) beneath adds)
 
 -- ---- all elements of an entry
+
+pub greatest_is : (n : Node) → greatest_number (node n).top ≡ greatest_number_by (out-Node n).occurs
+greatest_is n = ap (λ (t : Tree Resolved). greatest_number t.top) (node_out n)
 
 pub one_element : (tree : Forest Resolved) (f : Filling) (t : Tree Resolved) (subscripts : List ℕ) (old new : List Ref) → is_table t.top.occurs ≡ false
     → AddsItems tree (items_below f t subscripts) old new → AddsItems tree (items_of f t subscripts) old new

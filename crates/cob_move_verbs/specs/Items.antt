@@ -25,10 +25,15 @@ fills filling.Zeros i = shows_number i.picture.category
 abbrev pub element_of : ℕ → List ℕ → Ref
 element_of number subscripts = record { node = number; subscripts = record { items = subscripts }; part = None }
 
+-- such an element, if it is filled so
+abbrev pub own_element : Bool → ℕ → List ℕ → List Ref
+own_element true number subscripts = element_of number subscripts ∷ []
+own_element false number subscripts = []
+
 -- an item with a name, if it is filled so: FILLER is left as it is
 abbrev pub own_item : Filling → Option (List ℕ) → Item → ℕ → List ℕ → List Ref
 own_item f None i number subscripts = []
-own_item f (Some name) i number subscripts = if fills f i then element_of number subscripts ∷ [] else []
+own_item f (Some name) i number subscripts = own_element (fills f i) number subscripts
 
 -- an element of an entry: the item that it is, or those of the group
 abbrev pub items_in_element : Filling → Resolved → Kind → (List ℕ → List Ref) → List ℕ → List Ref

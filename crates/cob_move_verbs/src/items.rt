@@ -2,7 +2,7 @@
 
 ghost use Rattle.std.specs.Prelude.{◌≡◌, ◌++◌, ◌∷◌, [], IfNone, IfOk, IfSome, OnOk, Some, None};
 ghost use Rattle.cob_copybook_tree.specs.Nodes.{forest, node, tree_of};
-ghost use Rattle.cob_move_verbs.specs.Items.{element_of, entry_in, fills, items_among, items_below, items_of, own_item};
+ghost use Rattle.cob_move_verbs.specs.Items.{element_of, entry_in, fills, items_among, items_below, items_of, own_element, own_item};
 ghost use Rattle.cob_layout_places.specs.Parts.{varies};
 ghost use Rattle.cob_move_verbs.specs.Reading.{AddsItems};
 
@@ -55,7 +55,29 @@ fn push_element(
     Ok(())
 }
 
-/// Puts an item behind those that are listed, if it has a name and is filled so.
+/// Puts an element of an item behind those that are listed, if it is filled so.
+///
+/// # Errors
+///
+/// Memory was refused.
+fn list_filled(
+    layout: &Layout,
+    filling: Filling,
+    number: usize,
+    item: &Item,
+    subscripts: &[u32],
+    list: &mut Vec<Ref>,
+) -> Result<(), AllocError>
+    ensures { OnOk result (AddsItems layout.now (own_element (fills filling item.now) number subscripts.now)
+        list.old.items list.new.items) }
+{
+    if !fills(filling, item) {
+        return Ok(());
+    }
+    push_element(layout, number, subscripts, list)
+}
+
+/// The same of an item that has a name.
 ///
 /// # Errors
 ///
@@ -72,13 +94,10 @@ fn list_item(
         (own_item filling (node entry.now).top.name item.now (node entry.now).top.number subscripts.now)
         list.old.items list.new.items) }
 {
-    let Some(_) = &entry.name else {
-        return Ok(());
-    };
-    if !fills(filling, item) {
-        return Ok(());
+    match &entry.name {
+        None => Ok(()),
+        Some(_) => list_filled(layout, filling, entry.number, item, subscripts, list),
     }
-    push_element(layout, entry.number, subscripts, list)
 }
 
 /// Subscripts, and one more behind them.
