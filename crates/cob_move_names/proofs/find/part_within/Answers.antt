@@ -5,9 +5,10 @@ use Rattle.cob_move_names.proofs.FindLemmas.{same_length, same_part}
 use Rattle.cob_move_names.proofs.find.part_within.Goals as goal
 
 pub returns-in_err-length-clause-no : goal.returns-in_err-length-clause-no
-returns-in_err-length-clause-no c = λ h.
+returns-in_err-length-clause-no c =
     let w = written_part c.args.written.now in
-    c.in_err-length.ensures.no (same_length c.args.characters (subscript_number w.start) c.in_ok-start.start w.length (sym c.in_ok-start.ensures.value) h.1)
+    rw c.from_residual-in_err-length.ensures
+    (λ h. c.in_err-length.ensures.no (same_length c.args.characters (subscript_number w.start) c.in_ok-start.start w.length (sym c.in_ok-start.ensures.value) h.1))
 
 pub returns-clause-found : goal.returns-clause-found
 returns-clause-found c =

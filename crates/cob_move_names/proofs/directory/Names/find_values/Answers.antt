@@ -22,6 +22,6 @@ returns-clause-found c =
       only = rw c.in-Some.is at c.in_ok-named.ensures.found;
       alone = rw c.in-Some.is at c.in_ok-named.ensures.alone;
       subscripts = c.in-Some-subscripts_of.ensures.yes;
-      whole = is_whole written_part c.args.reference.now.part (sym c.is_some.ensures ∙ c.if-not-is_some.false);
+      whole = is_whole written_part c.args.reference.now.part (sym c.is_some.ensures ∙ c.if-is_some.false);
       is = ap (put_operand v.item.side (plain_span v.first.now) (map plain_span v.more.now)) (c.operand_of.ensures ∙ ap (λ (xs : List ℕ). element_operand (listed_record_entry v.item) xs None) c.in-Some-subscripts_of.ensures.found);
     }
