@@ -1,5 +1,5 @@
 -- Parts of elements: where they stand, and what they describe.
-use Rattle.std.proofs.Common.{◌≡◌, ℕ, ◌+◌, ◌-◌, ◌<◌, ◌≤◌, List, refl, sym, ap, subst, ◌∙◌, arith, Option, Some, None, Ok, Err, Result}
+use Rattle.std.proofs.Common.{◌≡◌, ℕ, ◌+◌, ◌-◌, ◌<◌, ◌≤◌, List, refl, sym, ap, ◌∙◌, arith, Option, Some, None, Ok, Err, Result}
 use Rattle.std.specs.Prelude.{option_map, IfSome}
 use Rattle.cob_copybook_tree.specs.declared.node.Kind.{Kind}
 use Rattle.cob_copybook_tree.specs.declared.node.Kind.TheVariants.{Item as ItemKind}
@@ -10,7 +10,6 @@ use Rattle.cob_limits.specs.Limits.{longest_record}
 use Rattle.cob_layout_places.specs.Counts.{kind_in}
 use Rattle.cob_layout.specs.declared.fields.Place.{Place}
 use Rattle.cob_layout.specs.declared.layout.PlaceFault.{PlaceFault}
-use Rattle.cob_layout.specs.Finding.{IsFound}
 use Rattle.cob_layout.specs.Laws.{LieInStorage}
 use Rattle.cob_layout.specs.Placed.{placed_under}
 use Rattle.cob_layout.proofs.StorageLemmas.{found_by}
@@ -19,12 +18,11 @@ use Rattle.cob_layout_places.specs.Places.{place_of}
 use Rattle.cob_layout_places.specs.Parts.{CharactersAreBytes, CharactersAreFew, IsPartIn, characters_in}
 use Rattle.cob_layout_places.specs.declared.reference.ItemPart.{ItemPart}
 use Rattle.cob_layout_places.specs.declared.reference.Ref.{Ref}
-use Rattle.cob_move_data.specs.declared.operands.Operand.{Operand}
 use Rattle.cob_move_data.specs.declared.operands.Side.{Side}
 use Rattle.cob_move_data.specs.declared.operands.Side.TheVariants.{In, Out}
-use Rattle.cob_move_data.specs.Moves.{IsOperand, Records, item_of_characters, kind_of_part, or_group, record_of}
+use Rattle.cob_move_data.specs.Moves.{Records, item_of_characters, kind_of_part, or_group, record_of}
 use Rattle.cob_move_receive.specs.Sent.{Occupies}
-use Rattle.cob_move_apply.specs.Located.{OperandsLieInStorage, StandsUnder, part_place, part_placed}
+use Rattle.cob_move_apply.specs.Located.{OperandsLieInStorage, part_place, part_placed}
 
 -- an element of this length has the part that is meant
 abbrev pub HasIt : Option ItemPart → ℕ → Type 0

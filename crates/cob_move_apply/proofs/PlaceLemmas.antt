@@ -1,6 +1,6 @@
 -- Where operands stand.
 use Rattle.std.proofs.Common.{◌≡◌, ℕ, ◌+◌, ◌≤◌, ◌<◌, [], ◌==◌, Bool, true, false, List, refl, sym, ap, subst, ◌∙◌, length, arith, inl, inr, Option, Some, None, Ok, Err, Result}
-use Rattle.std.specs.Prelude.{option_map, IfSome}
+use Rattle.std.specs.Prelude.{option_map}
 use Rattle.cob_copybook_tree.specs.declared.node.Item.{Item}
 use Rattle.cob_copybook_tree.specs.declared.node.Kind.{Kind}
 use Rattle.cob_copybook_tree.specs.declared.node.Kind.TheVariants.{Group, Item as ItemKind}

@@ -1,4 +1,4 @@
-use Rattle.std.proofs.Common.{ap, sym, ◌∙◌}
+use Rattle.std.proofs.Common.{ap, ◌∙◌}
 use Rattle.cob_move_data.specs.Moves.{kind_of_part, operand_in}
 use Rattle.cob_move_apply.proofs.ItemPartLemmas.{few_characters, kind_there}
 use Rattle.cob_move_apply.proofs.SeenLemmas.{there}

@@ -1,4 +1,4 @@
-use Rattle.std.proofs.Common.{arith, ap, sym, ◌∙◌, Option, Some, Ok, Result}
+use Rattle.std.proofs.Common.{arith, ap, sym, ◌∙◌, Some, Ok}
 use Rattle.std.specs.Prelude.{option_map}
 use Rattle.cob_layout.specs.Counting.{greatest_counts}
 use Rattle.cob_move_apply.specs.Located.{part_placed}
