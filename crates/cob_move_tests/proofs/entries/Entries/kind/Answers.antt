@@ -18,7 +18,7 @@ pub new-requires : goal.new-requires
 new-requires c =
     let tree : Forest Resolved = record_of (records_of c.args.self.now) c.args.side in
     few_characters c.characters_are_few.ensures tree c.args.entry.now c.args.entry.now.part
-        (c.records_are_sound.ensures tree (subst IsRecordDescription c.layout-layout.ensures c.greatest.ensures.record)).fit c.requires.operand.parted
+    (c.records_are_sound.ensures tree (subst IsRecordDescription c.layout-layout.ensures c.greatest.ensures.record)).fit c.requires.operand.parted
 
 pub returns : goal.returns
 returns c =
