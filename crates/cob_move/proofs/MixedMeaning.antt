@@ -71,11 +71,11 @@ mixed_named all r s t side edis o p m first second =
         only = ap (λ (x : List ℕ). named x t.qualifiers all) m.third.0 ∙ ap (λ (x : List (List ℕ)). named s.name x all) m.third.1 ∙ second.only;
         subscripts = mixed_elements second.bearer.entry.tables r.subscripts s.subscripts t.subscripts
             (subst (λ (c : Candidate). AreSubscriptsOf c.entry.tables r.subscripts) same first.subscripts) second.subscripts m.subscripts;
-        parted = subst (HasPart second.bearer.entry.characters) (sym m.whole.1.1) tt;
+        parted = subst (HasPart second.bearer.entry.characters) (sym m.whole.2) tt;
         stands = second.stands;
         is = refl;
       };
-      kind = ap (λ (x : Option WrittenPart). kind_of_part (part_meant second.bearer.entry.characters x) second.bearer.entry.kind) (m.whole.1.1 ∙ sym m.whole.1.0) ∙ ap (λ (x : Operand). x.kind) (sym second.is);
+      kind = ap (λ (x : Option WrittenPart). kind_of_part (part_meant second.bearer.entry.characters x) second.bearer.entry.kind) (m.whole.2 ∙ sym m.whole.1) ∙ ap (λ (x : Operand). x.kind) (sym second.is);
       node = ap (λ (x : Operand). x.entry.node) (sym second.is);
     }
 
@@ -84,7 +84,7 @@ pub same_kind : (all : List Candidate) (r s t : WrittenReference) (side edis : S
 same_kind all r s t side edis o p m first second =
     let same : first.bearer ≡ second.bearer = one_bearer all r.name s.name r.qualifiers s.qualifiers first.bearer second.bearer m.first.0 m.first.1 first.only second.only in
     ap (λ (x : Operand). x.kind) first.is ∙ ap (λ (c : Candidate). kind_of_part (part_meant c.entry.characters r.part) c.entry.kind) same
-    ∙ ap (λ (x : Option WrittenPart). kind_of_part (part_meant second.bearer.entry.characters x) second.bearer.entry.kind) (m.whole.0 ∙ sym m.whole.1.0) ∙ ap (λ (x : Operand). x.kind) (sym second.is)
+    ∙ ap (λ (x : Option WrittenPart). kind_of_part (part_meant second.bearer.entry.characters x) second.bearer.entry.kind) (m.whole.0 ∙ sym m.whole.1) ∙ ap (λ (x : Operand). x.kind) (sym second.is)
 
 -- ---- MOVE
 

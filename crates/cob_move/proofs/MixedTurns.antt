@@ -166,12 +166,12 @@ mixed_deeds values ended one input output all ks bs es (Moves own more) plain d 
 mixed_deeds values ended one input output all ks bs es (Pause more) plain d e m n mixed are era = mixed_deeds values ended one input output all ks bs es more plain d e m n mixed are era
 mixed_deeds values ended one input output all ks bs es (ALoop l body more) plain d e m n mixed (f, count, own, next, turned, rest, loop, are, d_is, m_is) (g, other, nwo, txen, denrut, tser, pool, era, e_is, n_is) =
     let (h, o, third) = mixed_loop one all ks bs es l l.bound (λ i x c. AreDeeds values all input output (ks ++ counter_at l i ∷ []) body x c)
-    (λ i x c. AreDeeds values all input output (bs ++ counter_at l i ∷ []) body x c) (λ i x c. AreDeeds values all input output (es ++ counter_at l i ∷ []) body x c) mixed plain.1.1
+    (λ i x c. AreDeeds values all input output (bs ++ counter_at l i ∷ []) body x c) (λ i x c. AreDeeds values all input output (es ++ counter_at l i ∷ []) body x c) mixed plain.2
     (λ i j x y a b first second. mixed_deeds values ended one input output all (ks ++ counter_at l i ∷ []) (bs ++ counter_at l j ∷ []) (es ++ counter_at l j ∷ []) body plain.0 x y a b
     (mixed_deeper ks bs es l.counter i j j mixed (inr refl)) first second)
     (λ i j x y a b first second. mixed_deeds values ended one input output all (bs ++ counter_at l i ∷ []) (es ++ counter_at l j ∷ []) (bs ++ counter_at l j ∷ []) body plain.0 x y a b
     (mixed_deeper bs es bs l.counter i j j (mixed_back ks bs es mixed) (inr refl)) first second) f g count other own nwo turned denrut loop pool in
-    let (others, thirds) = mixed_deeds values ended one input output all ks bs es more plain.1.0 next txen rest tser mixed are era in
+    let (others, thirds) = mixed_deeds values ended one input output all ks bs es more plain.1 next txen rest tser mixed are era in
     (joined_deeds o others, (h, other, o, others, denrut, tser, third, thirds, refl, n_is))
 mixed_deeds values ended one input output all ks bs es (AChoice c branches more) plain d e m n mixed are era = absurd plain
 mixed_deeds values ended one input output all ks bs es (ABranch t own others) plain d e m n mixed are era = absurd plain
@@ -189,19 +189,19 @@ mixed_first values ended one input output all ks bs es (ALoop l body more) plain
 mixed_first values ended one input output all ks bs es (ALoop l body more) plain d m many mixed (f, count, own, next, turned, rest, loop, are, d_is, m_is) (inr (inl within)) =
     inr (inl (first_loop one all ks bs es l l.bound (λ i x c. AreDeeds values all input output (ks ++ counter_at l i ∷ []) body x c)
     (λ i x c. AreDeeds values all input output (bs ++ counter_at l i ∷ []) body x c) (λ i x c. AreDeeds values all input output (es ++ counter_at l i ∷ []) body x c)
-    (λ i c. ComeFirst values all input output (bs ++ counter_at l i ∷ []) body c) (λ i c. ComeFirst values all input output (es ++ counter_at l i ∷ []) body c) mixed plain.1.1
+    (λ i c. ComeFirst values all input output (bs ++ counter_at l i ∷ []) body c) (λ i c. ComeFirst values all input output (es ++ counter_at l i ∷ []) body c) mixed plain.2
     (λ i j x y a b is si. mixed_deeds values ended one input output all (ks ++ counter_at l i ∷ []) (bs ++ counter_at l j ∷ []) (es ++ counter_at l j ∷ []) body plain.0 x y a b
     (mixed_deeper ks bs es l.counter i j j mixed (inr refl)) is si)
     (λ i j x a o is part. mixed_first values ended one input output all (ks ++ counter_at l i ∷ []) (bs ++ counter_at l j ∷ []) (es ++ counter_at l j ∷ []) body plain.0 x a o
     (mixed_deeper ks bs es l.counter i j j mixed (inr refl)) is part) f count own turned many loop within))
 mixed_first values ended one input output all ks bs es (ALoop l body more) plain d m many mixed (f, count, own, next, turned, rest, loop, are, d_is, m_is) (inr (inr (g, other, nwo, denrut, tser, pool, first, cut))) =
     let (h, o, third) = mixed_loop one all ks bs es l l.bound (λ i x c. AreDeeds values all input output (ks ++ counter_at l i ∷ []) body x c)
-    (λ i x c. AreDeeds values all input output (bs ++ counter_at l i ∷ []) body x c) (λ i x c. AreDeeds values all input output (es ++ counter_at l i ∷ []) body x c) mixed plain.1.1
+    (λ i x c. AreDeeds values all input output (bs ++ counter_at l i ∷ []) body x c) (λ i x c. AreDeeds values all input output (es ++ counter_at l i ∷ []) body x c) mixed plain.2
     (λ i j x y a b is si. mixed_deeds values ended one input output all (ks ++ counter_at l i ∷ []) (bs ++ counter_at l j ∷ []) (es ++ counter_at l j ∷ []) body plain.0 x y a b
     (mixed_deeper ks bs es l.counter i j j mixed (inr refl)) is si)
     (λ i j x y a b is si. mixed_deeds values ended one input output all (bs ++ counter_at l i ∷ []) (es ++ counter_at l j ∷ []) (bs ++ counter_at l j ∷ []) body plain.0 x y a b
     (mixed_deeper bs es bs l.counter i j j (mixed_back ks bs es mixed) (inr refl)) is si) f g count other own nwo turned denrut loop pool in
-    inr (inr (h, other, o, denrut, tser, third, mixed_first values ended one input output all ks bs es more plain.1.0 next rest tser mixed are first, cut))
+    inr (inr (h, other, o, denrut, tser, third, mixed_first values ended one input output all ks bs es more plain.1 next rest tser mixed are first, cut))
 mixed_first values ended one input output all ks bs es (AChoice c branches more) plain d m many mixed are first = absurd plain
 mixed_first values ended one input output all ks bs es (ABranch t own others) plain d m many mixed are first = absurd plain
 
@@ -298,7 +298,7 @@ first_within values law ended one input output all ns (ALoop l body more) plain 
 first_within values law ended one input output all ns (ALoop l body more) plain d m many (suc q) low (f, count, own, next, turned, rest, loop, are, d_is, m_is) (inr (inr (g, other, nwo, denrut, tser, pool, first, cut))) =
     let same : denrut + 0 ≡ turned + 0 = (law values all input output ns (ALoop l body NoMore) (joined_deeds nwo Nothing) (joined_deeds own Nothing) (denrut + 0) (turned + 0)
     (g, other, nwo, Nothing, denrut, 0, pool, (refl, refl), refl, refl) (f, count, own, Nothing, turned, 0, loop, (refl, refl), refl, refl)).1 in
-    behind_within many m tser turned rest (suc q) (first_within values law ended one input output all ns more plain.1.0 next rest tser (suc q) (omega (arith, low, le-max_right (deep body + 1) (deep more))) are first) (omega (arith, cut, same)) m_is
+    behind_within many m tser turned rest (suc q) (first_within values law ended one input output all ns more plain.1 next rest tser (suc q) (omega (arith, low, le-max_right (deep body + 1) (deep more))) are first) (omega (arith, cut, same)) m_is
 first_within values law ended one input output all ns (AChoice c branches more) plain d m many q low are first = absurd plain
 first_within values law ended one input output all ns (ABranch t own others) plain d m many q low are first = absurd plain
 
